@@ -1,0 +1,98 @@
+# The answers from which the proofs of the crate `access` are written.
+EQUATIONS = 'mathlib.Core.Path.{_≡_, refl, sym, ap, _∙_}'
+LISTS = 'mathlib.Core.List.{List, [], _∷_}'
+TESTS = 'borrow.Author.Tests.{eq-eqb, ne-eqb, lt-ltb, le-ltb, le-leb, lt-leb}'
+OMEGA = 'native.Mathlib.Omega.{arith}'
+NAT = 'Prim.Native.Nat.{_+_, _-_, _*_, _/_, _%_}'
+OTHERWISE = 'Rattle.choice.proofs.SelectLaws.{otherwise}'
+USE = [EQUATIONS]
+SPECS = {'Fields': 'Rattle.isa.specs.Fields', 'Addressing': 'Rattle.isa.specs.Addressing', 'Accesses': 'Rattle.isa.specs.Accesses',
+         'Spans': 'Rattle.page.specs.Spans'}
+# contracts that give the result's bound after its value
+PROD = {fn: ' .0' for fn in ('field-a', 'field-b', 'registers-from', 'base-accumulator', 'all-from', 'popped-span', 'pushed-span', 'moved-span',
+                             'at-operand', 'words-moved', 'words-of-integer', 'words-of-float', 'words-read', 'words-written')}
+
+
+# the definitions to unfold as 'File:name name;File:name', further imports, and the needs' answers
+def by(definitions, *imports, **answers):
+    files = [part.split(':') for part in definitions.split(';')]
+    given = {'use': ['%s.{%s}' % (SPECS[file], ', '.join(names.split())) for file, names in files] + list(imports),
+             'unf': {'*': ' '.join(names for _, names in files)}}
+    given.update({need.replace('_', '-'): answer for need, answer in answers.items()})
+    return given
+
+
+# the default of a match over keys
+def rest(number, keys):
+    return 'otherwise %s (%s[]) _ (@match .rest)' % (number, ''.join('(%s, _) ∷ ' % key for key in keys.split()))
+
+
+# a match over keys whose arms are constants; bounded: the contract has the result's bound too
+def table(definition, argument, keys, bounded):
+    last = 'returns_%d' % (len(keys.split()) + 1)
+    default = 'sym (%s)' % rest('(@args .%s)' % argument, keys)
+    return by(definition, LISTS, OTHERWISE, arms='(@arm, search needs)' if bounded else '@arm',
+              **{last: '(%s, search needs)' % default if bounded else default})
+
+
+FLOATS = '60 61 68 69 74 75 79 80 94 95'
+OPERATION = '(@args .n .form % 256)'
+LESS_ONE = 'let e : @less .result ≡ wrapped (@get .result + 65535) = @less .ensures in '
+
+A = {
+    'fields/field_a': by('Fields:fieldA', returns='(refl, search needs)'),
+    'fields/field_b': by('Fields:fieldB', returns='(refl, search needs)'),
+    'fields/base_of': by('Fields:baseRegister', returns='refl'),
+    'fields/displacement_of': by('Fields:displacement', returns='refl'),
+    'fields/signed_displacement': by('Fields:signedDisplacement', TESTS,
+        returns='rw (lt-ltb _ _ (@if1 .taken))', returns_2='rw (le-ltb _ _ (@if1 .left))'),
+    'fields/get': by('Fields:register', returns='refl'),
+    'fields/put': by('Fields:withRegister', returns='refl'),
+    'fields/registers_from': by('Fields:registersFrom', returns='(refl, search needs)'),
+    'fields/index_by': by('Fields:indexed;Spans:wrapped', TESTS, returns='rw (eq-eqb _ _ (@if1 .taken))',
+        returns_2='rw (ne-eqb _ _ (@if1 .left), ← @get .ensures) (@wrapping-add-u16 .ensures)'),
+    'fields/less': by('Spans:wrapped', OMEGA, returns='omega (arith, @wrapping-sub-u16 .ensures)'),
+    'addressing/in_memory': table('Addressing:inMemory', 'mode', '2 3 6 7', False),
+    'addressing/immediate': table('Addressing:isImmediate', 'mode', '4 5 8 9', False),
+    'addressing/based': table('Addressing:isBased', 'mode', '2 3', False),
+    'addressing/base_accumulator': table('Addressing:baseAccumulator', 'operation', '39 48 60 68 74 79 94', True),
+    'addressing/derive': by('Addressing:derivedFrom;Spans:wrapped', LISTS, OTHERWISE, arms='@arm',
+        returns_3='rw (@match .keys3, ← @field-b2 .ensures .0) refl', returns_4='rw (@match .keys4, ← @field-b3 .ensures .0) refl',
+        returns_10='sym (%s)' % rest('(@args .mode)', '2 3 4 5 6 7 8 9 10')),
+    'addressing/operand_word': by('Addressing:operandWord isRegister', TESTS,
+        returns='rw (eq-eqb _ _ (@if1 .taken), ← @field-b .ensures .0) (@get .ensures)', returns_2='rw (ne-eqb _ _ (@if1 .left))'),
+    'addressing/operand_of': by('Addressing:operand', returns='rw (← @immediate .ensures, @if1 .taken)',
+        returns_2='rw (← @immediate .ensures, @if1 .left) (@operand-word .ensures)'),
+    'addressing/double_operand': by('Addressing:doubleOperand', returns='rw (← @operand-word .ensures, ← @operand-word2 .ensures) (@join .ensures)'),
+    'addressing/accumulator_of': by('Addressing:accumulator',
+        returns='(rw (← @based .ensures, @if1 .taken) (@base-accumulator .ensures .0), @base-accumulator .ensures .1)',
+        returns_2='(rw (← @based .ensures, @if1 .left) (@field-a .ensures .0), @field-a .ensures .1)'),
+    'accesses/words_moved': table('Accesses:wordsMoved', 'operation', '3 4 5 6 35 38 39 41 42 43 49 52 53', True),
+    'accesses/words_of_integer': table('Accesses:wordsOfInteger', 'operation', '55 56 59 63 64 67 71 72 73 76 77 78 81 82 83 84 91 92 93', True),
+    'accesses/words_of_float': by('Accesses:wordsOfFloat', LISTS, OTHERWISE, arms='(@arm, search needs)',
+        returns_11='(@words-of-integer .ensures .0 ∙ sym (%s), @words-of-integer .ensures .1)' % rest('(@args .operation)', FLOATS)),
+    'accesses/words_read': by('Accesses:wordsRead', TESTS,
+        returns='(rw (le-leb _ _ (@if1 .taken)) (@words-moved .ensures .0), @words-moved .ensures .1)',
+        returns_2='(rw (lt-leb _ _ (@if1 .left)) (@words-of-float .ensures .0), @words-of-float .ensures .1)'),
+    'accesses/words_written': table('Accesses:wordsWritten', 'operation', '3 4 6 45 46 48 49 51 52 53 56 64', True),
+    'accesses/at_operand': by('Accesses:atOperand',
+        returns='(rw (← @in-memory .ensures, @if1 .taken) (@span-from .ensures), rw (@span-from .ensures) (@Start .pre))',
+        returns_2='(rw (← @in-memory .ensures, @if1 .left) (@span-from2 .ensures), rw (@span-from2 .ensures) (search needs))'),
+    'accesses/all_from': by('Accesses:allFrom', OMEGA,
+        returns='(rw (← @field-a .ensures .0) (@span-from .ensures), rw (@span-from .ensures) (omega (arith, @field-a .ensures .1)))'),
+    'accesses/popped_span': by('Accesses:poppedSpan', OMEGA, sub_t7='omega (arith, @field-a .ensures .1)',
+        registers_from_requires='(@field-a .ensures .1, @field-b .ensures .1)',
+        returns='(rw (← @field-a .ensures .0, ← @get .ensures, ← @field-b .ensures .0, ← @registers-from .ensures .0) refl, @registers-from .ensures .1)'),
+    'accesses/pushed_span': by('Accesses:pushedSpan', NAT, SPECS['Spans'] + '.{wrapped}', registers_from_requires='(@field-a .ensures .1, @field-b .ensures .1)',
+        returns=LESS_ONE + '(rw (← @get .ensures, ← @field-a .ensures .0, ← @field-b .ensures .0, ← @registers-from .ensures .0, ← e) refl, @registers-from .ensures .1)'),
+    'accesses/moved_span': by('Accesses:movedSpan', TESTS,
+        returns='(rw (← @field-a .ensures .0, ← @get .ensures, eq-eqb _ _ (@if1 .taken), ← @get2 .ensures) (@span-from .ensures), rw (@span-from .ensures) (search needs))',
+        returns_2='(rw (← @field-a .ensures .0, ← @get .ensures, ne-eqb _ _ (@if1 .left), ← @get3 .ensures) (@span-from2 .ensures), rw (@span-from2 .ensures) (search needs))'),
+    'accesses/reads': by('Accesses:readsOf', LISTS, OTHERWISE, OMEGA, NAT, returns='(@arm, rw (@span-from .ensures) (search needs))',
+        returns_2='(@arm, @all-from .ensures .1)', returns_3='(@arm, @popped-span .ensures .1)', returns_4='(@arm, @moved-span .ensures .1)',
+        returns_5='(rw (← @words-read .ensures .0) (@at-operand .ensures .0 ∙ sym (%s)), omega (arith, @at-operand .ensures .1))' % rest(OPERATION, '37 40 44 47')),
+    'accesses/writes': by('Accesses:writesOf', LISTS, OTHERWISE, OMEGA, NAT, SPECS['Spans'] + '.{wrapped}',
+        returns=LESS_ONE + '(rw (@match .keys1, ← @field-a .ensures .0, ← @get .ensures, ← e) (@span-from .ensures), rw (@span-from .ensures) (search needs))',
+        returns_2='(@arm, @moved-span .ensures .1)', returns_3='(@arm, @all-from .ensures .1)', returns_4='(@arm, @pushed-span .ensures .1)',
+        returns_5='(rw (← @words-written .ensures .0) (@at-operand .ensures .0 ∙ sym (%s)), omega (arith, @at-operand .ensures .1))' % rest(OPERATION, '36 47 50 54')),
+}

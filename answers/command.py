@@ -1,0 +1,92 @@
+# The answers from which the proofs of the crate `command` are written.
+EQUATIONS = 'mathlib.Core.Path.{_≡_, refl, sym, ap, _∙_}'
+LISTS = 'mathlib.Core.List.{List, [], _∷_}'
+TESTS = 'borrow.Author.Tests.{eq-eqb, ne-eqb, lt-ltb, le-ltb, le-leb, lt-leb}'
+NUMBERS = 'lib.Dec.{ltb, leb}'
+OMEGA = 'native.Mathlib.Omega.{arith}'
+STATE = 'Rattle.machine.specs.State.'
+COMMANDS = 'Rattle.isa.specs.Commands.'
+OUTCOME = 'Rattle.command.specs.Outcome.'
+CHOICE = 'Rattle.choice.proofs.SelectLaws.{otherwise}'
+LAWS = 'Rattle.command.proofs.CommandLaws.{unlisted, past-outputs, same}'
+
+
+# a function and the definitions, each `place names ..`, that its returns unfold
+def by(*unfolded, use=(), **answers):
+    names = [part.split()[1:] for part in unfolded]
+    made = {'use': [EQUATIONS] + list(use) + [part.split()[0] + '{%s}' % ', '.join(part.split()[1:]) for part in unfolded],
+            'unf': {'*': ' '.join(sum(names, []))}}
+    made.update({need.replace('_', '-'): answer for need, answer in answers.items()})
+    return made
+
+
+# rules by their numbers
+def rules(numbers):
+    return '(%s[])' % ''.join('(%s, _) ∷ ' % number for number in numbers.split())
+
+
+OUTPUTS = '0x2000 0x2001 0x2002 0x2003 0x2004 0x2005 0x200E 0x4008 0x4009 0x400A 0x400C 0x400D 0x400E'
+INPUTS = '0xA000 0xA004 0xA00E 0xA00F 0xC00A 0xC00E'
+CALLS = ['set-mask', 'set-pending', 'set-enabled', 'set-enabled2', 'reset-pending', 'hold-pending', 'set-status',
+         'set-timer-a', 'set-timer-a2', 'set-timer-a3', 'set-timer-b', 'set-timer-b2', 'set-timer-b3']
+OPENED = COMMANDS + ' stateCommand becomes'
+
+
+# need number i of the returns
+def returns(i):
+    return 'returns' if i == 1 else 'returns_%d' % i
+
+
+# the tests of a command's range: it is past so many, and in the next one
+def ranges(count, taken=True):
+    left = ['lt-leb _ _ (@if%d .left)' % i for i in range(1, count + 1)]
+    return ', '.join(left + (['le-leb _ _ (@if%d .taken)' % (count + 1)] if taken else []))
+
+
+# an input, past the outputs' ranges
+def input_of(tests, answer):
+    return 'λ ra. past-outputs _ (@Start .pre .2) _ _ _ _ _ _ _ (rw (%s)%s)' % (tests, answer)
+
+
+A = {
+    'parts/resume': by(COMMANDS + ' resumed', STATE + ' withIc advanced', 'Rattle.machine.specs.Machine. nextOf', returns='λ regs. rw (← @following .ensures) refl'),
+    'parts/load_status': by(COMMANDS + ' statusLoaded', STATE + ' withIc withSw withMk', returns='λ regs. refl'),
+    'parts/set_mask': by(STATE + ' withMk', returns='λ regs. refl'),
+    'parts/set_status': by(STATE + ' withSw', returns='λ regs. refl'),
+    'parts/set_pending': by(STATE + ' withPi withFt', returns='λ regs. refl'),
+    'parts/hold_pending': by(STATE + ' withPi withHold', returns='λ regs. refl'),
+    'parts/reset_pending': by(COMMANDS + ' pendingReset', STATE + ' withPi withFt', use=[TESTS],
+        returns='λ regs. rw (← @reset-bit .ensures, eq-eqb _ _ (@if1 .taken)) (@set-pending .ensures regs)',
+        returns_2='λ regs. rw (← @reset-bit .ensures, ne-eqb _ _ (@if1 .left)) (@set-pending2 .ensures regs)'),
+    'parts/set_enabled': by(STATE + ' withEnabled withHold', returns='λ regs. refl'),
+    'parts/set_timer_a': by(STATE + ' withTa withTaOn', returns='λ regs. refl'),
+    'parts/set_timer_b': by(STATE + ' withTb withTbOn', returns='λ regs. refl'),
+    'xio/state_output': by(OPENED, OUTCOME + ' governed', use=[LISTS, CHOICE, TESTS, NUMBERS, LAWS, STATE + '{withEnabled, withHold, withTa, withTb, withTaOn, withTbOn}'],
+        **{returns(i + 1): 'λ regs g o n. rw (@match .keys%d) (ap (becomes g o) (@%s .ensures regs))' % (i + 1, call) for i, call in enumerate(CALLS)},
+        returns_14='λ regs g o n. sym (otherwise (@args .command) %s _ (@match .rest) ∙ unlisted (leb 0x8000) (@args .command) %s _ refl (lt-leb _ _ (@Start .pre)))' % (rules(OUTPUTS), rules(INPUTS))),
+    'xio/output': by(COMMANDS + ' commanded becomes', OUTCOME + ' governed Kept', use=[TESTS, OMEGA, LAWS],
+        returns='(λ regs n. rw (%s) refl, tt, tt)' % ranges(0),
+        returns_2='(λ regs n. rw (%s) (@state-output .ensures regs _ _ n), same (@state-output .result) _, same (@state-output .result) _)' % ranges(1),
+        returns_3='(λ regs n. rw (%s) refl, tt, tt)' % ranges(2),
+        returns_4='(λ regs n. rw (%s) refl, tt, tt)' % ranges(3),
+        returns_5='(λ regs n. rw (%s, le-leb (@args .command) 0x7FFF (omega (arith, @Start .pre .2))) (@state-output2 .ensures regs _ _ n), same (@state-output2 .result) _, same (@state-output2 .result) _)' % ranges(4, False)),
+    'xio/take': by(returns='rw (← @field-a .ensures .0) (@put .ensures)'),
+    'xio/state_input': by(COMMANDS + ' stateCommand becomes withRa faultsRead', OUTCOME + ' governed Kept', STATE + ' withRegs', use=[LISTS, CHOICE, TESTS, NUMBERS, LAWS],
+        **{returns(i): '(λ g o ra. rw (@match .keys%d, ← @take%s .ensures) refl, tt)' % (i, i if i > 1 else '') for i in (1, 2, 3, 5, 6)},
+        returns_4='(λ g o ra. rw (@match .keys4, ← @reset-bit .ensures, ← @take4 .ensures) (ap (becomes g o) (@set-pending .ensures _)), tt)',
+        returns_7='(λ g o ra. sym (unlisted (λ k. ltb k 0x8000) (@args .n .address) %s _ refl (le-ltb _ _ (@Start .pre)) ∙ otherwise (@args .n .address) %s _ (@match .rest)), refl)' % (rules(OUTPUTS), rules(INPUTS))),
+    'xio/input': by(COMMANDS + ' commanded becomes withRa', OUTCOME + ' governed Kept', STATE + ' withRegs', use=[TESTS, LAWS],
+        returns='(%s, tt)' % input_of(ranges(0) + ', ← @take .ensures', ' refl'),
+        returns_2='(%s, @state-input .ensures .1)' % input_of(ranges(1), ' (@state-input .ensures .0 _ _ ra)'),
+        returns_3='(%s, tt)' % input_of(ranges(2) + ', ← @take2 .ensures', ' refl'),
+        returns_4='(%s, tt)' % input_of(ranges(3) + ', ← @take3 .ensures', ' refl'),
+        returns_5='(%s, @state-input2 .ensures .1)' % input_of(ranges(4, False), ' (@state-input2 .ensures .0 _ _ ra)')),
+    'supervise': by(COMMANDS + ' supervisedBy becomes', OUTCOME + ' governed Kept', use=[TESTS, LAWS],
+        returns='(rw (eq-eqb _ _ (@if1 .taken)) (ap (becomes _ _) (@load-status .ensures _)), tt, tt, tt)',
+        returns_2='(rw (ne-eqb _ _ (@if1 .left), ← @resume .ensures _, ← @field-a .ensures .0, ← @get .ensures) (@output .ensures .0 _ _), same (@output .result) _, @output .ensures .1, @output .ensures .2)',
+        returns_3='(rw (ne-eqb _ _ (@if1 .left), ← @resume .ensures _, ← @field-a .ensures .0, ← @get .ensures) (@input .ensures .0 _), @input .ensures .1, same (@input .result) _, same (@input .result) _)'),
+}
+for need, names in (('4', 'withEnabled withHold'), ('8', 'withTa withTaOn'), ('9', 'withTa withTaOn'), ('11', 'withTb withTbOn'), ('12', 'withTb withTbOn')):
+    A['xio/state_output']['unf']['returns-' + need] = 'stateCommand becomes governed ' + names
+for fn, needs, names in (('xio/output', '25', 'commanded'), ('supervise', '23', 'supervisedBy')):
+    A[fn]['unf'].update({'returns-' + need: names for need in needs})

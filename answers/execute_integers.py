@@ -1,0 +1,58 @@
+# The answers from which the proofs of the crate `execute_integers` are written.
+USE = ['mathlib.Core.Path.{_≡_, refl, sym, ap, _∙_}', 'Prim.Native.Nat.{_/_, _%_, _+_}', 'borrow.Author.Tests.{ne-eqb}', 'native.Mathlib.Omega.{arith}']
+INTEGERS = 'Rattle.isa.specs.Integers.'
+DOUBLES = 'Rattle.execute_integers.specs.Doubles.{arithmetic}'
+LAWS = 'Rattle.execute_integers.proofs.OutcomeLaws.'
+
+# what the arms of a match share: RA's number, the accumulator's, the single operand
+LETS = {'a': '← @field-a .ensures .0', 'k': '← @accumulator-of .ensures .0', 'o': '← @operand-of .ensures'}
+
+
+# none of the numbers before
+def others(count):
+    return ', '.join('ne-eqb _ _ (@match .rest%s .1)' % (' .0' * i) for i in reversed(range(count)))
+
+
+# an operation: for each arm the shared facts, the calls for the operands, the arithmetic and the shape; nth counts a function's calls
+def operation(definition, rows, opened=''):
+    calls, answers = {}, {'use': [INTEGERS + '{%s}' % definition] + [DOUBLES] * (opened != ''), 'unf': {'*': definition + opened}}
+
+    def nth(name):
+        calls[name] = calls.get(name, 0) + 1
+        return '@%s%s .ensures' % (name, calls[name] if calls[name] > 1 else '')
+
+    for place, (lets, operands, leaf, shape) in enumerate(rows, 1):
+        steps = ['@match .keys%d' % place] + [LETS[x] for x in lets] + ['← ' + nth(x) for x in operands.split()]
+        if leaf == 'combine32':
+            answers['combine32-requires' + ('-%d' % (calls.get(leaf, 0) + 1) if leaf in calls else '')] = '@field-a .ensures .1'
+        leaf, closed = nth(leaf), nth(shape)
+        if shape in ('single-outcome', 'double-outcome', 'memory-outcome'):
+            closed += ' _ _ _ (%s)' % leaf
+        else:
+            steps, closed = steps + ['← ' + leaf], closed + ' _ _'
+        answers['returns' + ('-%d' % place if place > 1 else '')] = 'rw (%s) (%s)' % (', '.join(steps), closed)
+    answers['returns-%d' % (len(rows) + 1)] = 'rw (%s) (@nothing .ensures _)' % others(len(rows))
+    return answers
+
+
+A = {
+    'outcomes/pair_at': {'use': ['Rattle.isa.specs.Words.{registerPair}'], 'unf': {'*': 'registerPair'}, 'returns': 'rw (← @get .ensures, ← @get2 .ensures) (@join .ensures)'},
+    'outcomes/single_outcome': {'use': [LAWS + '{single-is}'], 'returns': 'λ regs sw o e. @result1 .ensures regs sw ∙ single-is _ _ _ _ _ _ e (@fixed-overflow .ensures)'},
+    'outcomes/double_outcome': {'use': [LAWS + '{double-is}'],
+        'returns': 'λ regs sw o e. @result2 .ensures regs sw ∙ double-is _ _ _ _ _ _ _ _ e (@fixed-overflow .ensures) (@high .ensures) (@low .ensures)'},
+    'outcomes/memory_outcome': {'use': [LAWS + '{memory-is}'], 'returns': 'λ regs sw o e. @modified .ensures regs sw ∙ memory-is _ _ _ _ _ e (@fixed-overflow .ensures)'},
+    'outcomes/quotient_outcome': {'use': [INTEGERS + '{quotientOutcome}'], 'unf': {'*': 'quotientOutcome'}, 'returns': 'λ regs sw. rw (← @fixed-overflow .ensures) (@result2 .ensures regs sw)'},
+    'outcomes/combine32': {'use': [DOUBLES], 'unf': {'*': 'arithmetic'}, 'pair-at-requires': '@Start .pre',
+        **{'returns' + i: 'rw (%s, ← @pair-at .ensures, ← @double-operand .ensures) (@%s .ensures)' % (keys, leaf)
+           for i, keys, leaf in (('', '@match .keys1', 'add32'), ('-2', '@match .keys2', 'sub32'), ('-3', '@match .keys3', 'multiply32'), ('-4', others(3), 'divide32'))}},
+    'integer_operation': operation('integerOperation', [
+        ('ko', 'get', 'add16', 'single-outcome'), ('a', '', 'add16', 'memory-outcome'), ('ao', '', 'absolute16', 'single-outcome'),
+        ('a', 'double-operand', 'absolute32', 'double-outcome'), ('a', '', 'combine32', 'double-outcome'),
+        ('ko', 'get', 'sub16', 'single-outcome'), ('a', '', 'sub16', 'memory-outcome'), ('ao', '', 'negate16', 'single-outcome'),
+        ('a', 'double-operand', 'negate32', 'double-outcome'), ('a', '', 'combine32', 'double-outcome'),
+        ('ao', 'get', 'multiply16', 'single-outcome'), ('ko', 'get', 'multiply-long', 'double-outcome'), ('a', '', 'combine32', 'double-outcome'),
+        ('ao', 'get', 'divide16', 'quotient-outcome'), ('ko', 'pair-at', 'divide-long', 'quotient-outcome'), ('a', '', 'combine32', 'double-outcome')], ' arithmetic'),
+    'logical_operation': operation('logicalOperation', [
+        ('ko', 'get', 'or', 'single'), ('ko', 'get', 'and', 'single'), ('ao', 'get', 'xor', 'single'), ('ao', 'get', 'nand', 'single'), ('a', 'get', 'exchange-bytes', 'single'),
+        ('ko', 'get', 'compare16', 'tested'), ('a', 'get', 'compare-limits', 'tested'), ('a', 'pair-at double-operand', 'compare32', 'tested')]),
+}

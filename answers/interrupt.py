@@ -1,0 +1,53 @@
+# The answers from which the proofs of the crate `interrupt` are written.
+EQUATIONS = 'mathlib.Core.Path.{_≡_, refl, sym, ap, _∙_}'
+TESTS = 'borrow.Author.Tests.{eq-eqb, ne-eqb}'
+OMEGA = 'native.Mathlib.Omega.{arith}'
+SPANS = 'Rattle.page.specs.Spans.'
+STATE = 'Rattle.machine.specs.State.'
+ENTRIES = 'Rattle.machine.specs.Entries.'
+STEP = 'Rattle.machine.specs.Step.'
+
+
+# a function and the definitions, each `place names ..`, that its returns unfold
+def by(*unfolded, use=(), **answers):
+    names = [part.split()[1:] for part in unfolded]
+    made = {'use': list(use) + [part.split()[0] + '{%s}' % ', '.join(part.split()[1:]) for part in unfolded],
+            'unf': {'*': ' '.join(sum(names, []))}}
+    made.update({need.replace('_', '-'): answer for need, answer in answers.items()})
+    return made
+
+
+# the stores of an entry are checked, with the case of the answer
+CHECKED = '← @group-of .ensures .0, ← @check-span .ensures, @%s .given .1'
+
+A = {
+    'fields/key_of': by(STATE + ' keyOf', use=[EQUATIONS, OMEGA], returns='(refl, omega arith)'),
+    'fields/group_of': by(STATE + ' groupOf', use=[EQUATIONS, OMEGA], returns='(refl, omega arith)'),
+    'fields/with_cs': by(STATE + ' withCs', use=[EQUATIONS], returns='refl'),
+    'fields/advance': by(SPANS + ' wrapped', returns='@wrapping-add-u16 .ensures'),
+    'pending/take': by(ENTRIES + ' takeable', use=[EQUATIONS],
+        returns='λ s e m. rw (e, m, @if1 .taken) refl', returns_2='λ s e m. rw (e, m, @if1 .left) refl'),
+    'pending/choose': {'use': [EQUATIONS, OMEGA, 'lib.Bits.{bitAnd}', 'lib.Count.{leading-le}', 'Rattle.machine.proofs.InterruptLaws.{chosen-leading, chosen-held}'],
+        'returns': 'λ s h e m p. sym (chosen-held s (h ∙ @if1 .taken))',
+        'returns-2': 'λ s h e m p. rw (← p, @take .ensures s e m) (sym (chosen-leading s (rw p (@Start .fits .pi .fits)) (h ∙ @if1 .left)))',
+        'cast-result': 'omega (arith, leading-le 16 (bitAnd (@args .pi) (@take .result)))'},
+    'vector/fault_of': by(ENTRIES + ' faultOf', returns='cc', returns_2='cc'),
+    'vector/read_zero': by(ENTRIES + ' gotZero', returns='@read-word .ensures'),
+    'vector/vector': by(ENTRIES + ' vectorOf', SPANS + ' wrapped', use=[EQUATIONS]),
+    'vector/call_vector': by(ENTRIES + ' callOf', SPANS + ' wrapped', use=[EQUATIONS]),
+    'entry/machine_error': by(ENTRIES + ' machineError', use=[EQUATIONS, TESTS],
+        returns='rw (eq-eqb _ _ (@if1 .taken))', returns_2='rw (ne-eqb _ _ (@if1 .left))'),
+    'entry/link': by(ENTRIES + ' linked linkStored refusalOf oldWords', use=[EQUATIONS],
+        returns='(rw (%s) refl, λ s m w a. rw (%s, ← @group-of .ensures .0, m, w, a) (@write-span .ensures))' % (CHECKED % 'enum-told', CHECKED % 'enum-told'),
+        returns_2='(rw (%s) refl, λ s m w a. rw (%s) refl)' % (CHECKED % 'verdict', CHECKED % 'verdict')),
+    'entry/enter': by(STEP + ' entered', ENTRIES + ' arrived', STATE + ' withIc withSw withMk withPi withFt withEnabled', use=[EQUATIONS, STATE + '{joined}'],
+        returns='λ regs ports. record { state-is = rw (← @link .ensures .0, ← @reset-bit .ensures, ← @machine-error .ensures) refl; memory-is = @link .ensures .1 (joined (@args .core) regs) refl refl refl; pages-is = refl; ports-is = refl }'),
+    'time/release': by(STEP + ' released', STATE + ' withHold', use=[EQUATIONS], returns='λ regs. refl'),
+    'time/fault': by(STEP + ' faulted', STATE + ' withIc withPi withFt', use=[EQUATIONS], returns='λ regs. refl'),
+    'time/rise': by(STEP + ' risen', SPANS + ' wrapped', returns='rw (@if1 .taken) (@wrapping-add-u16 .ensures)', returns_2='rw (@if1 .left)'),
+    'time/pass': by(STEP + ' passing', use=[TESTS],
+        returns='λ n e. rw (@if1 .taken, eq-eqb _ _ (@if2 .taken)) e', returns_2='λ n e. rw (@if1 .taken, ne-eqb _ _ (@if2 .left))', returns_3='λ n e. rw (@if1 .left)'),
+    'time/rises_b': by(returns='rw (@if1 .taken)', returns_2='rw (@if1 .left)'),
+    'time/tick': by(STEP + ' ticked counted risesB', STATE + ' withPi withTa withTb withCount', use=[EQUATIONS],
+        returns='λ regs. rw (← @wrapping-add-u32 .ensures, ← @rises-b .ensures, ← @pass .ensures 7 refl, ← @pass2 .ensures 9 refl, ← @rise .ensures, ← @rise2 .ensures) refl'),
+}

@@ -1,0 +1,58 @@
+# The answers from which the proofs of the crate `ordinary` are written.
+EQUATIONS = 'mathlib.Core.Path.{_≡_, refl, sym, ap, _∙_}'
+TESTS = 'borrow.Author.Tests.{le-ltb, lt-ltb}'
+OMEGA = 'native.Mathlib.Omega.{arith}'
+LENGTH = 'lib.ListN.{length}'
+SPANS = 'Rattle.page.specs.Spans.'
+SPAN_LAWS = 'Rattle.page.proofs.SpanLaws.{kept, taken}'
+STATE = 'Rattle.machine.specs.State.'
+STEP = 'Rattle.machine.specs.Step.'
+STORES = 'Rattle.ordinary.specs.Stores.'
+WORK = 'Rattle.effect.specs.Work.'
+ISA = 'Rattle.isa.specs.Mil1750.'
+LAWS = 'Rattle.ordinary.proofs.OrdinaryLaws.'
+
+# the groups in the order of their ranges, each with the last paragraph that it serves
+RANGES = [('bit', 9), ('shift', 23), ('jump', 37), ('load', 44), ('store', 54), ('integer', 59), ('float', 62), ('integer', 67), ('float', 70),
+          ('integer', 73), ('float', 75), ('integer', 78), ('float', 80), ('logical', 84), ('float', 88), ('logical', 93), ('float', 95)]
+
+
+# a function and the definitions, each `place names ..`, that its returns unfold
+def by(*unfolded, use=(), **answers):
+    names = [part.split()[1:] for part in unfolded]
+    made = {'use': [EQUATIONS] + list(use) + [part.split()[0] + '{%s}' % ', '.join(part.split()[1:]) for part in unfolded],
+            'unf': {'*': ' '.join(sum(names, []))}}
+    made.update({need.replace('_', '-'): answer for need, answer in answers.items()})
+    return made
+
+
+AT = '(@args .key) (@args .group) (@args .pages .now) (length (@args .memory .now)) (@args .span) (@args .memory .now) (@args .j) (@args .a)'
+KEYED = 'rw (← @key-of .ensures .0, ← @group-of .ensures .0) '
+SEEN = '(context (@args .regs .now) (@args .ic) (@args .sw) (@args .pi)) (@args .n) (@args .x) (@args .y) (@args .z) (operationOf (@args .n .form))'
+
+A = {
+    'word_at': by(use=[OMEGA, LENGTH, LAWS + '{word-there, word-absent}'],
+        returns='word-absent %s (λ l. absurd (omega arith))' % AT, returns_2='word-absent %s (λ l. @if2 .taken)' % AT,
+        returns_3='word-there %s (@if1 .left) (@if2 .left) (@Start .pre .2) _ (@read-word .ensures) _ (@word-of .ensures)' % AT),
+    'first_words': by(SPANS + ' wrapped', use=[LAWS + '{third-address}'],
+        returns='(' + ', '.join(KEYED + part for part in (
+            '(@word-at .ensures refl)', '(@word-at2 .ensures (@wrapping-add-u16 .ensures))',
+            '(@word-at3 .ensures (third-address (@args .span) _ _ (@wrapping-add-u16 .ensures) (@wrapping-add-u162 .ensures)))')) + ')'),
+    'store_at': by(STORES + ' storedOne', use=[TESTS, SPAN_LAWS],
+        returns='rw (le-ltb _ _ (@if1 .taken)) refl', returns_2='rw (lt-ltb _ _ (@if1 .left)) (kept (@args .span) (@args .j) _ _ (@if2 .taken))',
+        returns_3='rw (lt-ltb _ _ (@if1 .left)) (taken (@args .span) (@args .j) _ _ _ (@if2 .left) (@write-word .ensures))'),
+    'store_words': by(use=[LAWS + '{three-stored}'],
+        returns=KEYED + '(three-stored (@key-of .result) (@group-of .result) (@args .pages .now) (@args .span) (@args .x) (@args .y) (@args .z) (@args .memory .now) (@Start .pre .1) '
+            '_ _ (@wrapping-add-u16 .ensures) (@wrapping-add-u162 .ensures) _ _ _ (@store-at .ensures) (@store-at2 .ensures) (@store-at3 .ensures))'),
+    'ordinary': by(use=[OMEGA, LAWS + '{in-range, past-all}', 'Rattle.decode.specs.Forms.{operationOf}', WORK + '{context}'],
+        returns_18='@nothing .ensures (@args .regs .now) ∙ past-all %s 96 refl (omega arith)' % SEEN),
+    'work': by(STEP + ' affected stored', WORK + ' worked', ISA + ' contextOf', STATE + ' withPi withSw withIc withRegs',
+        returns='(rw (← @ordinary .ensures, ← @apply .ensures, ← @with-cs .ensures) refl, rw (← @ordinary .ensures) (@store-words .ensures))'),
+}
+
+first = 0
+for place, (group, last) in enumerate(RANGES):
+    times = [name for name, _ in RANGES[:place + 1]].count(group)
+    A['ordinary']['returns' + ('-%d' % (place + 1) if place else '')] = (
+        '@%s-operation%s .ensures ∙ in-range %s %d %d %d refl (omega arith) (omega arith)' % (group, times if times > 1 else '', SEEN, place, first, last + 1))
+    first = last + 1

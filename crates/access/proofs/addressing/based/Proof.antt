@@ -1,0 +1,25 @@
+-- `access::addressing::based` meets its contract. Assumes nothing.
+use Rattle.isa.specs.Addressing.{isBased}
+use mathlib.Core.List.{List, [], _∷_}
+use Rattle.choice.proofs.SelectLaws.{otherwise}
+use mathlib.Core.Path.{_≡_, refl, sym, ap, _∙_}
+use borrow.Author.Needs.{needs}
+use Rattle.access.proofs.addressing.based.Statement.{statement}
+use Rattle.access.proofs.addressing.based.Tie as tie
+use Rattle.access.proofs.addressing.based.Reads as reads
+use Rattle.access.proofs.addressing.based.Lts as lts
+
+returns : tie.Need-returns
+unfolding isBased
+returns c = rw (c .match .keys1)
+
+returns-2 : tie.Need-returns-2
+unfolding isBased
+returns-2 c = rw (c .match .keys2)
+
+returns-3 : tie.Need-returns-3
+unfolding isBased
+returns-3 c = sym (otherwise (c .before .args .mode) ((2, _) ∷ (3, _) ∷ []) _ (c .match .rest))
+
+pub based-spec : {M : Type 1} → statement M
+based-spec = tie.close (tie.spec returns returns-2 returns-3)

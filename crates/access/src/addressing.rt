@@ -1,0 +1,122 @@
+// The derived address of each addressing mode before indirection, and the derived operand (4.3, table V).
+ghost use mathlib.Core.Path.{_≡_};
+ghost use Prim.Native.Nat.{_<_};
+ghost use Rattle.isa.specs.Addressing.{derivedFrom, inMemory, isImmediate, isBased, isRegister, operandWord, operand, doubleOperand, baseAccumulator, accumulator};
+use crate::fields::base_of;
+use crate::fields::displacement_of;
+use crate::fields::field_a;
+use crate::fields::field_b;
+use crate::fields::get;
+use crate::fields::index_by;
+use crate::fields::signed_displacement;
+use machine::Instruction;
+use std::num::wrapping_add_u16;
+
+// The address of a mode before indirection, or its immediate operand.
+pub fn derive(mode: u16, regs: &[u16; 16], ic: u16, first: u16, second: u16) -> u16
+    ensures { λ r. ⌜ r ≡ derivedFrom mode (now (regs .entry)) ic first second ⌝ }
+{
+    match mode {
+        2 => wrapping_add_u16(get(regs, base_of(first)), displacement_of(first)),
+        3 => index_by(regs, field_b(first), get(regs, base_of(first))),
+        4 => field_b(first) + 1,
+        5 => 65535 - field_b(first),
+        6 => index_by(regs, field_b(first), second),
+        7 => index_by(regs, field_b(first), second),
+        8 => index_by(regs, field_b(first), second),
+        9 => second,
+        10 => wrapping_add_u16(ic, signed_displacement(first)),
+        _ => 0,
+    }
+}
+
+// Whether the operand of a mode is in memory.
+pub fn in_memory(mode: u16) -> bool
+    ensures { λ r. ⌜ r ≡ inMemory mode ⌝ }
+{
+    match mode {
+        2 => true,
+        3 => true,
+        6 => true,
+        7 => true,
+        _ => false,
+    }
+}
+
+// Whether the operand of a mode is in the instruction.
+pub fn immediate(mode: u16) -> bool
+    ensures { λ r. ⌜ r ≡ isImmediate mode ⌝ }
+{
+    match mode {
+        4 => true,
+        5 => true,
+        8 => true,
+        9 => true,
+        _ => false,
+    }
+}
+
+// Whether a mode has a base register.
+pub fn based(mode: u16) -> bool
+    ensures { λ r. ⌜ r ≡ isBased mode ⌝ }
+{
+    match mode {
+        2 => true,
+        3 => true,
+        _ => false,
+    }
+}
+
+// Word k of the operand, k at most 2: register RB + k, or x, which was read.
+pub fn operand_word(regs: &[u16; 16], n: Instruction, k: u16, x: u16) -> u16
+    requires { ⌜ k < 3 ⌝ }
+    ensures { λ r. ⌜ r ≡ operandWord (now (regs .entry)) n k x ⌝ }
+{
+    if n.form / 256 % 16 == 1 {
+        return get(regs, field_b(n.first) + k);
+    }
+    x
+}
+
+// A single precision operand.
+pub fn operand_of(regs: &[u16; 16], n: Instruction, x: u16) -> u16
+    ensures { λ r. ⌜ r ≡ operand (now (regs .entry)) n x ⌝ }
+{
+    if immediate(n.form / 256 % 16) {
+        return n.address;
+    }
+    operand_word(regs, n, 0, x)
+}
+
+// A double precision operand.
+pub fn double_operand(regs: &[u16; 16], n: Instruction, x: u16, y: u16) -> u32
+    ensures { λ r. ⌜ r ≡ doubleOperand (now (regs .entry)) n x y ⌝ }
+{
+    word::pair::join(operand_word(regs, n, 0, x), operand_word(regs, n, 1, y))
+}
+
+// The accumulator of a mode with a base register.
+pub fn base_accumulator(operation: u16) -> u16
+    ensures { λ r. ⌜ (r ≡ baseAccumulator operation) × (r < 16) ⌝ }
+{
+    match operation {
+        39 => 0,
+        48 => 0,
+        60 => 0,
+        68 => 0,
+        74 => 0,
+        79 => 0,
+        94 => 0,
+        _ => 2,
+    }
+}
+
+// The number of the accumulator.
+pub fn accumulator_of(n: Instruction) -> u16
+    ensures { λ r. ⌜ (r ≡ accumulator n) × (r < 16) ⌝ }
+{
+    if based(n.form / 256 % 16) {
+        return base_accumulator(n.form % 256);
+    }
+    field_a(n.first)
+}

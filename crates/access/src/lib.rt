@@ -1,0 +1,4 @@
+// The fields of an instruction, the operand of its addressing mode, and the words that it reads and writes.
+pub mod accesses;
+pub mod addressing;
+pub mod fields;

@@ -1,0 +1,79 @@
+-- `block::stores::push_words` meets its contract. Assumes nothing.
+use mathlib.Core.Path.{_≡_, refl, sym, ap, _∙_}
+use native.Mathlib.Omega.{arith}
+use Prim.Native.Nat.{ℕ, _+_, _-_, _%_, _≤_, _<_}
+use lib.ListN.{length, length-set, getD, take, drop}
+use Rattle.isa.specs.Blocks.{pushedWord}
+use Rattle.block.proofs.BlockLaws.{pushed-at, one-more}
+use borrow.Author.Needs.{needs}
+use Rattle.block.proofs.stores.push_words.Statement.{statement}
+use Rattle.block.proofs.stores.push_words.Tie as tie
+
+abbrev Inv-loop : tie.InvT-loop
+Inv-loop regs buf₀ b k i₀ buf i = (b < 16) × (k ≤ 16) × (length buf ≡ 16) × ((j : ℕ) → j < i → getD buf j 0 ≡ pushedWord regs ((16 + b - j) % 16) j)
+
+abbrev μ-loop : tie.MeasureT-loop
+μ-loop regs buf₀ b k i₀ buf i = k - i
+
+field-b-requires : tie.Need-field-b-requires Inv-loop μ-loop
+field-b-requires c κs = search needs
+
+field-a-requires : tie.Need-field-a-requires Inv-loop μ-loop
+field-a-requires c κs = search needs
+
+registers-from-requires : tie.Need-registers-from-requires Inv-loop μ-loop
+registers-from-requires c κs = (c .field-a .ensures .1, c .before .field-b .ensures .1)
+
+loop-holds : tie.Need-loop-holds Inv-loop μ-loop
+loop-holds c = (c .before .before .field-b .ensures .1, c .registers-from .ensures .1, c .before .before .before .pre, λ j l. absurd (omega arith))
+
+cast-number : tie.Need-cast-number Inv-loop μ-loop
+cast-number c = search needs
+
+add-pushed-word : tie.Need-add-pushed-word Inv-loop μ-loop
+add-pushed-word c = search needs
+
+sub-pushed-word : tie.Need-sub-pushed-word Inv-loop μ-loop
+sub-pushed-word c = search needs
+
+pushed-word-requires : tie.Need-pushed-word-requires Inv-loop μ-loop
+pushed-word-requires c κs = search needs
+
+mul-buf : tie.Need-mul-buf Inv-loop μ-loop
+mul-buf c = search needs
+
+element-write-buf : tie.Need-element-write-buf Inv-loop μ-loop
+element-write-buf c = search needs
+
+add-i : tie.Need-add-i Inv-loop μ-loop
+add-i c = search needs
+
+loop-less : tie.Need-loop-less Inv-loop μ-loop
+loop-less c = search needs
+
+loop-again : tie.Need-loop-again Inv-loop μ-loop
+loop-again c = (c .before .before .loop .inv .0, c .before .before .loop .inv .1, length-set (c .before .before .loop .buf) (c .before .before .loop .i) _ ∙ c .before .before .loop .inv .2, one-more (λ j. pushedWord (c .before .before .before .before .before .before .args .regs .now) ((16 + c .before .before .before .before .before .field-b .result - j) % 16) j) (c .before .before .loop .buf) (c .before .before .loop .i) _ (c .before .before .loop .inv .3) (omega arith) (c .pushed-word .ensures))
+
+returns : tie.Need-returns Inv-loop μ-loop
+returns c = rw (← c .before .before .before .field-a .ensures .0, ← c .before .before .before .before .field-b .ensures .0, ← c .before .before .registers-from .ensures .0) (λ j l. c .before .loop .inv .3 j (omega (arith, c .loop-test .left)) ∙ sym (pushed-at _ _ _ 0 j j l (omega arith)))
+
+pub push-words-spec : {M : Type 1} → statement M
+push-words-spec =
+    tie.close
+    (tie.spec
+    Inv-loop
+    μ-loop
+    field-b-requires
+    field-a-requires
+    registers-from-requires
+    loop-holds
+    cast-number
+    add-pushed-word
+    sub-pushed-word
+    pushed-word-requires
+    mul-buf
+    element-write-buf
+    add-i
+    loop-less
+    loop-again
+    returns)

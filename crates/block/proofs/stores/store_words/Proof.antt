@@ -1,0 +1,83 @@
+-- `block::stores::store_words` meets its contract. Assumes nothing.
+use mathlib.Core.Path.{_≡_, refl, sym, ap, _∙_}
+use mathlib.Core.List.{List, [], _∷_}
+use mathlib.Core.Bool.{true, false, false≢true}
+use Rattle.choice.proofs.SelectLaws.{otherwise}
+use Rattle.block.proofs.BlockLaws.{operand-unwritten}
+use Rattle.isa.specs.Accesses.{wordsWritten}
+use Rattle.isa.specs.Blocks.{rearranged, storedAll, pushedAll}
+use Rattle.block.specs.Operation.{isBlock}
+use Prim.Native.Nat.{ℕ, _+_, _-_, _%_, _≤_, _<_}
+use Rattle.isa.specs.Accesses.{writesOf}
+use Rattle.isa.specs.Execute.{executed}
+use borrow.Author.Needs.{needs}
+use Rattle.block.proofs.stores.store_words.Statement.{statement}
+use Rattle.block.proofs.stores.store_words.Tie as tie
+
+store-moved-requires : tie.Need-store-moved-requires
+store-moved-requires c κs = search needs
+
+all-from-requires : tie.Need-all-from-requires
+all-from-requires c κs = search needs
+
+write-span-requires : tie.Need-write-span-requires
+write-span-requires c κs = (c .before .before .before .before .before .before .pre .0, c .before .before .before .before .before .before .pre .1, c .all-from .ensures .1)
+
+store-pushed-requires : tie.Need-store-pushed-requires
+store-pushed-requires c κs = search needs
+
+returns : tie.Need-returns
+unfolding writesOf wordsWritten
+returns c = λ v e. rw (c .match .keys1) (operand-unwritten _ _ _ _ _ _ _)
+
+returns-2 : tie.Need-returns-2
+unfolding writesOf wordsWritten
+returns-2 c = λ v e. rw (c .match .keys2) (operand-unwritten _ _ _ _ _ _ _)
+
+same-length : tie.Need-same-length
+same-length c = search needs
+
+returns-3 : tie.Need-returns-3
+unfolding writesOf executed
+returns-3 c = λ v e. rw (c .before .before .before .before .match .keys3) (c .before .before .store-moved .ensures v e)
+
+same-length-2 : tie.Need-same-length-2
+same-length-2 c = search needs
+
+returns-4 : tie.Need-returns-4
+unfolding writesOf executed storedAll rearranged
+returns-4 c = λ v e. rw (c .before .before .before .before .before .match .keys4, e, ← c .before .before .before .all-from .ensures .0) (c .before .before .write-span .ensures)
+
+same-length-3 : tie.Need-same-length-3
+same-length-3 c = search needs
+
+returns-5 : tie.Need-returns-5
+unfolding writesOf executed pushedAll rearranged
+returns-5 c = λ v e. rw (c .before .before .before .before .match .keys5, e) (c .before .before .store-pushed .ensures)
+
+returns-6 : tie.Need-returns-6
+unfolding writesOf wordsWritten
+returns-6 c = λ v e. rw (c .match .keys6) (operand-unwritten _ _ _ _ _ _ _)
+
+returns-7 : tie.Need-returns-7
+unfolding isBlock
+returns-7 c = λ v e. absurd (false≢true (sym (otherwise (c .before .before .before .before .args .n .form % 256) ((40, _) ∷ (44, _) ∷ (47, _) ∷ (50, _) ∷ (54, _) ∷ (90, _) ∷ []) _ (c .match .rest)) ∙ c .before .before .before .before .pre .2))
+
+pub store-words-spec : {M : Type 1} → statement M
+store-words-spec =
+    tie.close
+    (tie.spec
+    store-moved-requires
+    all-from-requires
+    write-span-requires
+    store-pushed-requires
+    returns
+    returns-2
+    same-length
+    returns-3
+    same-length-2
+    returns-4
+    same-length-3
+    returns-5
+    returns-6
+    returns-7)

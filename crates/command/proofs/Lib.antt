@@ -1,0 +1,2 @@
+-- The laws of commands.
+pub mod CommandLaws

@@ -1,0 +1,2 @@
+-- The definitions of what a privileged operation's code hands back.
+pub mod Outcome

@@ -1,0 +1,18 @@
+-- What a privileged operation comes to, from what its code hands back and leaves in the lists that it is lent. Assumes nothing.
+use Prim.Native.Nat.{ℕ}
+use mathlib.Core.Path.{_≡_}
+use mathlib.Core.List.{List}
+use Rattle.machine.specs.State.{joined}
+use Rattle.machine.specs.Machine.{Supervised, done, refused}
+use Rattle.command.specs.declared.Governed.{Governed}
+use Rattle.command.specs.declared.Governed.the-variants.{Done, Refused}
+
+-- with the registers r, the page registers g and the ports o afterwards
+unfoldable pub governed : Governed → List ℕ → List ℕ → List ℕ → Supervised
+governed (Done c) r g o = done (record { state = joined c r; pages = g; ports = o })
+governed (Refused b) r g o = refused b
+
+-- a refused command leaves the list x: afterwards it is y
+unfoldable pub Kept : Governed → List ℕ → List ℕ → Type 0
+Kept (Done c) x y = Unit {0}
+Kept (Refused b) x y = x ≡ y

@@ -1,0 +1,4 @@
+-- The laws of one instruction and of runs, and property 3 of this machine.
+pub mod ActLaws
+pub mod StepLaws
+pub mod Isolated

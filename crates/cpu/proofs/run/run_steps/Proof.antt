@@ -1,0 +1,65 @@
+-- `cpu::run::run_steps` meets its contract. Assumes nothing.
+use mathlib.Core.Path.{_≡_, refl, sym, ap, _∙_}
+use native.Mathlib.Omega.{arith}
+use lib.ListN.{length}
+use Rattle.machine.specs.State.{joined}
+use Rattle.machine.specs.Machine.{machine}
+use Rattle.machine.specs.Runs.{steps}
+use Rattle.isa.specs.Mil1750.{mil1750}
+use Rattle.cpu.proofs.StepLaws.{steps-none, steps-step}
+use Rattle.machine.proofs.MachineLaws.{became-machine, machine-became}
+use borrow.Author.Needs.{needs}
+use Rattle.cpu.proofs.run.run_steps.Statement.{statement}
+use Rattle.cpu.proofs.run.run_steps.Tie as tie
+use Rattle.cpu.proofs.run.run_steps.Reads as reads
+use Rattle.cpu.proofs.run.run_steps.Lts as lts
+use Rattle.cpu.proofs.run.step.Reads as step-reads
+
+abbrev Inv-loop : tie.InvT-loop
+Inv-loop regs₀ memory₀ pages₀ ports₀ table n t₀ left₀ regs memory pages ports t left = (length memory ≡ length memory₀) × (length pages ≡ length pages₀) × (length ports ≡ length ports₀) × (steps mil1750 left₀ (machine (joined t₀ regs₀) memory₀ pages₀ ports₀) ≡ steps mil1750 left (machine (joined t regs) memory pages ports))
+
+abbrev μ-loop : tie.MeasureT-loop
+μ-loop regs₀ memory₀ pages₀ ports₀ table n t₀ left₀ regs memory pages ports t left = left
+
+loop-holds : tie.Need-loop-holds Inv-loop μ-loop
+loop-holds c = (refl, refl, refl, refl)
+
+step-requires : tie.Need-step-requires Inv-loop μ-loop
+step-requires c κs = (omega arith, omega arith, c .before .before .before .before .before .before .before .before .before .pre .2)
+
+sub-left : tie.Need-sub-left Inv-loop μ-loop
+sub-left c = omega arith
+
+loop-less : tie.Need-loop-less Inv-loop μ-loop
+loop-less c = omega arith
+
+loop-again : tie.Need-loop-again Inv-loop μ-loop
+loop-again c = let l = c .before .before .before .before .before .before .before .before .before .before .before .before .loop in let k = c .before .before .before .before .before .before .step .kept in (k .1 .1 .0 ∙ l .inv .0, k .1 .1 .1 .0 ∙ l .inv .1, k .1 .1 .1 .1 .0 ∙ l .inv .2, rw (l .inv .3, steps-step mil1750 (l .left) (machine (joined (l .t) (l .regs)) (l .memory) (l .pages) (l .ports)) (c .before .before .before .before .before .before .before .before .before .before .before .loop-test .taken), ← became-machine (c .before .before .before .before .before .before .step .ensures)) refl)
+
+same-length : tie.Need-same-length Inv-loop μ-loop
+same-length c = c .before .loop .inv .0
+
+same-length-2 : tie.Need-same-length-2 Inv-loop μ-loop
+same-length-2 c = c .before .loop .inv .1
+
+same-length-3 : tie.Need-same-length-3 Inv-loop μ-loop
+same-length-3 c = c .before .loop .inv .2
+
+returns : tie.Need-returns Inv-loop μ-loop
+returns c = let l = c .before .loop in machine-became (sym (l .inv .3 ∙ steps-none mil1750 (l .left) (machine (joined (l .t) (l .regs)) (l .memory) (l .pages) (l .ports)) (c .loop-test .left)))
+
+pub run-steps-spec : {M : Type 1} → statement M
+run-steps-spec =
+    tie.close
+    (tie.spec
+    Inv-loop
+    μ-loop
+    loop-holds
+    step-requires
+    sub-left
+    loop-less
+    loop-again
+    same-length
+    same-length-2
+    same-length-3
+    returns)

@@ -1,0 +1,3 @@
+// The processor: one instruction, one step, a run.
+pub mod act;
+pub mod run;

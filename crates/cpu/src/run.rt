@@ -1,0 +1,203 @@
+// Steps and runs (Scope, "One step", "Questions at the door").
+ghost use mathlib.Core.Path.{_≡_};
+ghost use lib.ListN.{length};
+ghost use Rattle.decode.specs.Decode.{forms};
+ghost use Rattle.machine.specs.State.{joined};
+ghost use Rattle.machine.specs.Machine.{Became, machine};
+ghost use Rattle.machine.specs.Step as spec;
+ghost use Rattle.machine.specs.Runs.{numberOf, wholePages, admission, answerOf, steps, left};
+ghost use Rattle.isa.specs.Mil1750.{mil1750};
+use crate::act::instruct;
+use interrupt::entry::enter;
+use interrupt::pending::choose;
+use interrupt::time::release;
+use interrupt::time::tick;
+use interrupt::vector::vector;
+use machine::Answer;
+use machine::Core;
+use machine::State;
+
+// What a step does before its end: the entry of an interrupt, or an instruction.
+fn begin(
+    core: Core,
+    regs: &mut [u16; 16],
+    memory: &mut [u16],
+    pages: &mut [u16],
+    ports: &mut [u16],
+    table: &[u16; 256],
+) -> Core
+    requires { ⌜ (length (now pages) ≡ 512) × (length (now ports) ≡ 1024) × (now table ≡ forms) ⌝ }
+    ensures { λ r. ⌜ Became (spec.perform (spec.released (joined core (now (regs .entry)))) (now (memory .entry)) (now (pages .entry)) (now (ports .entry))
+        (spec.action mil1750 (machine (joined core (now (regs .entry))) (now (memory .entry)) (now (pages .entry)) (now (ports .entry)))))
+        (joined r (now (regs .exit))) (now (memory .exit)) (now (pages .exit)) (now (ports .exit)) ⌝ }
+{
+    let n = choose(core.hold, core.enabled, core.mk, core.pi);
+    let next = release(core);
+    if n < 16 {
+        let v = vector(memory, pages, n);
+        return enter(next, memory, pages, n, v);
+    }
+    instruct(next, regs, memory, pages, ports, table)
+}
+
+// One step.
+pub fn step(
+    core: Core,
+    regs: &mut [u16; 16],
+    memory: &mut [u16],
+    pages: &mut [u16],
+    ports: &mut [u16],
+    table: &[u16; 256],
+) -> Core
+    requires { ⌜ (length (now pages) ≡ 512) × (length (now ports) ≡ 1024) × (now table ≡ forms) ⌝ }
+    ensures { λ r. ⌜ Became (spec.step mil1750 (machine (joined core (now (regs .entry))) (now (memory .entry)) (now (pages .entry)) (now (ports .entry))))
+        (joined r (now (regs .exit))) (now (memory .exit)) (now (pages .exit)) (now (ports .exit)) ⌝ }
+{
+    let done = begin(core, regs, memory, pages, ports, table);
+    tick(done)
+}
+
+// As many steps as are told.
+fn run_steps(
+    core: Core,
+    regs: &mut [u16; 16],
+    memory: &mut [u16],
+    pages: &mut [u16],
+    ports: &mut [u16],
+    table: &[u16; 256],
+    n: u32,
+) -> Core
+    requires { ⌜ (length (now pages) ≡ 512) × (length (now ports) ≡ 1024) × (now table ≡ forms) ⌝ }
+    ensures { λ r. ⌜ Became (steps mil1750 n (machine (joined core (now (regs .entry))) (now (memory .entry)) (now (pages .entry)) (now (ports .entry))))
+        (joined r (now (regs .exit))) (now (memory .exit)) (now (pages .exit)) (now (ports .exit)) ⌝ }
+{
+    let mut t = core;
+    let mut left = n;
+    while 0 < left {
+        t = step(t, regs, memory, pages, ports, table);
+        left -= 1;
+    }
+    t
+}
+
+// Whether a memory is a multiple of 4,096 words, from 4,096 to 1,048,576.
+fn whole(memory: usize) -> bool
+    ensures { λ r. ⌜ r ≡ wholePages memory ⌝ }
+{
+    if memory % 4096 == 0 {
+        if 4096 <= memory {
+            return memory <= 1048576;
+        }
+        return false;
+    }
+    false
+}
+
+// The questions before a run, in their order.
+pub fn ask(memory: usize, pages: usize, ports: usize, count: u32, budget: u32) -> Answer
+    ensures { λ r. ⌜ r ≡ admission memory pages ports count budget ⌝ }
+{
+    if !whole(memory) {
+        return Answer::BadMemory;
+    }
+    if pages != 512 {
+        return Answer::BadPages;
+    }
+    if ports != 1024 {
+        return Answer::BadPorts;
+    }
+    if 1000000 < budget {
+        return Answer::BadBudget;
+    }
+    if 4294967295 < count as u64 + budget as u64 {
+        return Answer::BadCounter;
+    }
+    Answer::Spent
+}
+
+// The Scope's number of an answer; 0: the budget is spent.
+pub fn number(answer: Answer) -> u16
+    ensures { λ r. ⌜ r ≡ numberOf answer ⌝ }
+{
+    match answer {
+        Answer::Spent => 0,
+        Answer::BadMemory => 1,
+        Answer::BadPages => 2,
+        Answer::BadPorts => 3,
+        Answer::BadBudget => 4,
+        Answer::BadCounter => 5,
+    }
+}
+
+// A core and the registers as one state.
+fn join(core: Core, regs: [u16; 16]) -> State
+    ensures { λ r. ⌜ r ≡ joined core regs ⌝ }
+{
+    State {
+        regs,
+        ic: core.ic,
+        sw: core.sw,
+        mk: core.mk,
+        pi: core.pi,
+        ft: core.ft,
+        enabled: core.enabled,
+        hold: core.hold,
+        ta: core.ta,
+        tb: core.tb,
+        taon: core.taon,
+        tbon: core.tbon,
+        count: core.count,
+    }
+}
+
+// A state without its registers.
+fn part(state: State) -> Core
+    ensures { λ r. ⌜ joined r (state .regs) ≡ state ⌝ }
+{
+    Core {
+        ic: state.ic,
+        sw: state.sw,
+        mk: state.mk,
+        pi: state.pi,
+        ft: state.ft,
+        enabled: state.enabled,
+        hold: state.hold,
+        ta: state.ta,
+        tb: state.tb,
+        taon: state.taon,
+        tbon: state.tbon,
+        count: state.count,
+    }
+}
+
+// What a run hands back.
+pub struct Ran {
+    pub answer: Answer,
+    pub state: State,
+}
+
+// A run: refused, with nothing changed, or exactly its budget of steps.
+pub fn run(
+    state: State,
+    memory: &mut [u16],
+    pages: &mut [u16],
+    ports: &mut [u16],
+    budget: u32,
+) -> Ran
+    ensures { λ r. ⌜ (r .answer ≡ answerOf (machine state (now (memory .entry)) (now (pages .entry)) (now (ports .entry))) budget)
+        × Became (left mil1750 (machine state (now (memory .entry)) (now (pages .entry)) (now (ports .entry))) budget)
+        (r .state) (now (memory .exit)) (now (pages .exit)) (now (ports .exit)) ⌝ }
+{
+    let answer = ask(memory.len(), pages.len(), ports.len(), state.count, budget);
+    if number(answer) == 0 {
+        let table = decode::table();
+        let mut regs = state.regs;
+        let core = part(state);
+        let last = run_steps(core, &mut regs, memory, pages, ports, &table, budget);
+        return Ran {
+            answer,
+            state: join(last, regs),
+        };
+    }
+    Ran { answer, state }
+}

@@ -1,0 +1,2 @@
+-- The definitions of fixed point multiply and divide.
+pub mod Divide

@@ -1,0 +1,24 @@
+-- `effect::float_faults` meets its contract. Assumes nothing.
+use Rattle.isa.specs.Effects.{floatFaults}
+use mathlib.Core.Path.{_≡_, refl, sym, ap, _∙_}
+use Prim.Native.Nat.{_/_, _%_}
+use borrow.Author.Needs.{needs}
+use Rattle.effect.proofs.float_faults.Statement.{statement}
+use Rattle.effect.proofs.float_faults.Tie as tie
+use Rattle.effect.proofs.float_faults.Reads as reads
+use Rattle.effect.proofs.float_faults.Lts as lts
+
+returns : tie.Need-returns
+unfolding floatFaults
+returns c = cc
+
+returns-2 : tie.Need-returns-2
+unfolding floatFaults
+returns-2 c = cc
+
+returns-3 : tie.Need-returns-3
+unfolding floatFaults
+returns-3 c = cc
+
+pub float-faults-spec : {M : Type 1} → statement M
+float-faults-spec = tie.close (tie.spec returns returns-2 returns-3)

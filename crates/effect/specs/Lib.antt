@@ -1,0 +1,2 @@
+-- The definitions of what an operation does.
+pub mod Work

@@ -1,0 +1,2 @@
+-- The laws of floating point operations.
+pub mod FloatEffects

@@ -1,0 +1,2 @@
+-- The definitions of the operands of floating point operations.
+pub mod Operands

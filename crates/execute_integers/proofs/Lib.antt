@@ -1,0 +1,2 @@
+-- The laws of integer operations.
+pub mod OutcomeLaws

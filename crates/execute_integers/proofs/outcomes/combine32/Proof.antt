@@ -1,0 +1,58 @@
+-- `execute_integers::outcomes::combine32` meets its contract. Assumes nothing.
+use Rattle.execute_integers.specs.Doubles.{arithmetic}
+use mathlib.Core.Path.{_≡_, refl, sym, ap, _∙_}
+use Prim.Native.Nat.{_/_, _%_, _+_}
+use borrow.Author.Tests.{ne-eqb}
+use native.Mathlib.Omega.{arith}
+use borrow.Author.Needs.{needs}
+use Rattle.execute_integers.proofs.outcomes.combine32.Statement.{statement}
+use Rattle.execute_integers.proofs.outcomes.combine32.Tie as tie
+
+pair-at-requires : tie.Need-pair-at-requires
+pair-at-requires c κs = c .pre
+
+double-operand-requires : tie.Need-double-operand-requires
+double-operand-requires c κs = search needs
+
+add32-requires : tie.Need-add32-requires
+add32-requires c κs = search needs
+
+sub32-requires : tie.Need-sub32-requires
+sub32-requires c κs = search needs
+
+multiply32-requires : tie.Need-multiply32-requires
+multiply32-requires c κs = search needs
+
+divide32-requires : tie.Need-divide32-requires
+divide32-requires c κs = search needs
+
+returns : tie.Need-returns
+unfolding arithmetic
+returns c = rw (c .before .match .keys1, ← c .before .before .before .pair-at .ensures, ← c .before .before .double-operand .ensures) (c .add32 .ensures)
+
+returns-2 : tie.Need-returns-2
+unfolding arithmetic
+returns-2 c = rw (c .before .match .keys2, ← c .before .before .before .pair-at .ensures, ← c .before .before .double-operand .ensures) (c .sub32 .ensures)
+
+returns-3 : tie.Need-returns-3
+unfolding arithmetic
+returns-3 c = rw (c .before .match .keys3, ← c .before .before .before .pair-at .ensures, ← c .before .before .double-operand .ensures) (c .multiply32 .ensures)
+
+returns-4 : tie.Need-returns-4
+unfolding arithmetic
+returns-4 c = rw (ne-eqb _ _ (c .before .match .rest .0 .0 .1), ne-eqb _ _ (c .before .match .rest .0 .1), ne-eqb _ _ (c .before .match .rest .1), ← c .before .before .before .pair-at .ensures, ← c .before .before .double-operand .ensures) (c .divide32 .ensures)
+
+pub combine32-spec : {M : Type 1} → statement M
+combine32-spec =
+    tie.close
+    (tie.spec
+    pair-at-requires
+    double-operand-requires
+    add32-requires
+    sub32-requires
+    multiply32-requires
+    divide32-requires
+    returns
+    returns-2
+    returns-3
+    returns-4)

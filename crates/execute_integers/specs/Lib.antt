@@ -1,0 +1,2 @@
+-- The definitions of integer operations.
+pub mod Doubles

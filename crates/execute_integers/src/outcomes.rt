@@ -1,0 +1,83 @@
+// What the operation does, from the outcome of its arithmetic: whatever the registers and SW hold, it is the definition's effect.
+ghost use mathlib.Core.Path.{_≡_};
+ghost use mathlib.Core.List.{List};
+ghost use Prim.Native.Nat.{ℕ, _<_};
+ghost use Rattle.fixed.specs.Fixed.{Outcome, single, double};
+ghost use Rattle.isa.specs.Addressing.{doubleOperand};
+ghost use Rattle.isa.specs.Words.{registerPair};
+ghost use Rattle.isa.specs.Integers.{singleOutcome, doubleOutcome, memoryOutcome, quotientOutcome};
+ghost use Rattle.effect.specs.Work.{context, worked};
+ghost use Rattle.execute_integers.specs.Doubles.{arithmetic};
+use access::addressing::double_operand;
+use access::fields::get;
+use divide::Quotient;
+use divide::products::multiply32;
+use divide::quotients::divide32;
+use effect::Work;
+use effect::fixed_overflow;
+use effect::shapes::modified;
+use effect::shapes::result1;
+use effect::shapes::result2;
+use fixed::Double;
+use fixed::Single;
+use fixed::sums::add32;
+use fixed::sums::sub32;
+use machine::Instruction;
+use word::pair::high;
+use word::pair::join;
+use word::pair::low;
+
+// The double word of register k and the next. k is a register's number.
+pub fn pair_at(regs: &[u16; 16], k: u16) -> u32
+    requires { ⌜ k < 16 ⌝ }
+    ensures { λ r. ⌜ r ≡ registerPair (now (regs .entry)) k ⌝ }
+{
+    join(get(regs, k), get(regs, k + 1))
+}
+
+// Register k gets an outcome of 16 bits.
+pub fn single_outcome(ic: u16, pi: u16, n: Instruction, k: u16, s: Single) -> Work
+    ensures { λ r. ⌜ ((regs : List ℕ) (sw : ℕ) (o : Outcome) → s ≡ single o → worked regs r ≡ singleOutcome (context regs ic sw pi) n k o) ⌝ }
+{
+    result1(ic, pi, n, k, s.value, s.cs, fixed_overflow(s.overflow))
+}
+
+// Registers k and k + 1 get one of 32 bits.
+pub fn double_outcome(ic: u16, pi: u16, n: Instruction, k: u16, d: Double) -> Work
+    ensures { λ r. ⌜ ((regs : List ℕ) (sw : ℕ) (o : Outcome) → d ≡ double o → worked regs r ≡ doubleOutcome (context regs ic sw pi) n k o) ⌝ }
+{
+    let bits = fixed_overflow(d.overflow);
+    let first = high(d.value);
+    let second = low(d.value);
+    result2(ic, pi, n, k, first, second, d.cs, bits)
+}
+
+// The memory word gets one of 16 bits.
+pub fn memory_outcome(ic: u16, pi: u16, n: Instruction, s: Single) -> Work
+    ensures { λ r. ⌜ ((regs : List ℕ) (sw : ℕ) (o : Outcome) → s ≡ single o → worked regs r ≡ memoryOutcome (context regs ic sw pi) n o) ⌝ }
+{
+    modified(ic, pi, n, s.value, s.cs, fixed_overflow(s.overflow))
+}
+
+// Registers k and k + 1 get a quotient and its remainder.
+pub fn quotient_outcome(ic: u16, pi: u16, n: Instruction, k: u16, q: Quotient) -> Work
+    ensures { λ r. ⌜ ((regs : List ℕ) (sw : ℕ) → worked regs r ≡ quotientOutcome (context regs ic sw pi) n k q) ⌝ }
+{
+    let bits = fixed_overflow(q.overflow);
+    result2(ic, pi, n, k, q.quotient, q.remainder, q.cs, bits)
+}
+
+// Sum, difference, product or quotient of a register pair and the double operand, by its paragraph. a is a register's number.
+pub fn combine32(operation: u16, regs: &[u16; 16], a: u16, n: Instruction, x: u16, y: u16) -> Double
+    requires { ⌜ a < 16 ⌝ }
+    ensures { λ r. ⌜ r ≡ double (arithmetic operation (registerPair (now (regs .entry)) a) (doubleOperand (now (regs .entry)) n x y)) ⌝ }
+{
+    let p = pair_at(regs, a);
+    let q = double_operand(regs, n, x, y);
+    match operation {
+        59 => add32(p, q),
+        67 => sub32(p, q),
+        73 => multiply32(p, q),
+        _ => divide32(p, q),
+    }
+}

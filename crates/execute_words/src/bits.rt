@@ -1,0 +1,50 @@
+// Single bits (5.3 to 5.9).
+ghost use mathlib.Core.List.{List};
+ghost use mathlib.Core.Path.{_≡_};
+ghost use Prim.Native.Nat.{ℕ, _<_};
+ghost use Rattle.word.specs.Bits.{setBit, testBit};
+ghost use Rattle.decode.specs.Forms.{operationOf};
+ghost use Rattle.isa.specs.Effects.{modified};
+ghost use Rattle.isa.specs.Words.{bitOperation};
+ghost use Rattle.effect.specs.Work.{context, worked};
+use access::addressing::operand_of;
+use access::fields::field_a;
+use access::fields::field_b;
+use access::fields::get;
+use effect::Work;
+use effect::shapes::loaded;
+use effect::shapes::modified;
+use effect::shapes::nothing;
+use effect::shapes::replaced;
+use effect::shapes::tested;
+use machine::Instruction;
+use word::bits::reset_bit;
+use word::bits::set_bit;
+use word::bits::test_bit;
+
+// TSB: bit a of the operand o is tested, then set (5.6). Every caller's bit number is a field of four bits.
+fn test_and_set(ic: u16, pi: u16, n: Instruction, o: u16, a: u16) -> Work
+    requires { ⌜ a < 16 ⌝ }
+    ensures { λ r. ⌜ ((regs : List ℕ) (sw : ℕ) → worked regs r ≡ modified (context regs ic sw pi) n (setBit o a) (testBit o a) 0) ⌝ }
+{
+    modified(ic, pi, n, set_bit(o, a), test_bit(o, a), 0)
+}
+
+// SB RB TB TSB SVBR RVBR TVBR; x is the word read.
+pub fn bit_operation(regs: &[u16; 16], ic: u16, sw: u16, pi: u16, n: Instruction, x: u16) -> Work
+    ensures { λ r. ⌜ worked (now (regs .entry)) r ≡ bitOperation (context (now (regs .entry)) ic sw pi) n x (operationOf (n .form)) ⌝ }
+{
+    let a = field_a(n.first);
+    let b = field_b(n.first);
+    let operation = n.form % 256;
+    match operation {
+        3 => replaced(ic, sw, pi, n, set_bit(operand_of(regs, n, x), a)),
+        4 => replaced(ic, sw, pi, n, reset_bit(operand_of(regs, n, x), a)),
+        5 => tested(ic, pi, n, test_bit(operand_of(regs, n, x), a)),
+        6 => test_and_set(ic, pi, n, operand_of(regs, n, x), a),
+        7 => loaded(ic, sw, pi, n, b, set_bit(get(regs, b), get(regs, a) % 16)),
+        8 => loaded(ic, sw, pi, n, b, reset_bit(get(regs, b), get(regs, a) % 16)),
+        9 => tested(ic, pi, n, test_bit(get(regs, b), get(regs, a) % 16)),
+        _ => nothing(ic, sw, pi, n),
+    }
+}

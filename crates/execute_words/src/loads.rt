@@ -1,0 +1,57 @@
+// Loads (5.38, 5.39, 5.41 to 5.43).
+ghost use mathlib.Core.Path.{_≡_};
+ghost use Rattle.decode.specs.Forms.{operationOf};
+ghost use Rattle.isa.specs.Words.{loadOperation};
+ghost use Rattle.effect.specs.Work.{context, worked};
+use access::addressing::accumulator_of;
+use access::addressing::double_operand;
+use access::addressing::operand_of;
+use access::fields::field_a;
+use access::fields::get;
+use effect::Work;
+use effect::shapes::double;
+use effect::shapes::nothing;
+use effect::shapes::result3;
+use effect::shapes::single;
+use float::mantissa::status;
+use float::packing::mantissa40;
+use machine::Instruction;
+use word::bytes::load_lower;
+use word::bytes::load_upper;
+
+// L DL EFL LUB LLB; x, y and z are the words read.
+pub fn load_operation(
+    regs: &[u16; 16],
+    ic: u16,
+    sw: u16,
+    pi: u16,
+    n: Instruction,
+    x: u16,
+    y: u16,
+    z: u16,
+) -> Work
+    ensures { λ r. ⌜ worked (now (regs .entry)) r ≡ loadOperation (context (now (regs .entry)) ic sw pi) n x y z (operationOf (n .form)) ⌝ }
+{
+    let a = field_a(n.first);
+    let operation = n.form % 256;
+    match operation {
+        38 => single(ic, pi, n, accumulator_of(n), operand_of(regs, n, x)),
+        39 => double(ic, pi, n, accumulator_of(n), double_operand(regs, n, x, y)),
+        41 => result3(ic, pi, n, a, x, y, z, status(40, mantissa40(x, y, z)), 0),
+        42 => single(
+            ic,
+            pi,
+            n,
+            a,
+            load_upper(get(regs, a), operand_of(regs, n, x)),
+        ),
+        43 => single(
+            ic,
+            pi,
+            n,
+            a,
+            load_lower(get(regs, a), operand_of(regs, n, x)),
+        ),
+        _ => nothing(ic, sw, pi, n),
+    }
+}

@@ -1,0 +1,50 @@
+// Stores (5.45, 5.46, 5.48, 5.49, 5.51 to 5.53).
+ghost use mathlib.Core.Path.{_≡_};
+ghost use Rattle.decode.specs.Forms.{operationOf};
+ghost use Rattle.isa.specs.Words.{storeOperation};
+ghost use Rattle.effect.specs.Work.{context, worked};
+use access::addressing::accumulator_of;
+use access::fields::field_a;
+use access::fields::get;
+use effect::Work;
+use effect::shapes::nothing;
+use effect::shapes::stored;
+use machine::Instruction;
+use word::bytes::store_lower;
+use word::bytes::store_masked;
+use word::bytes::store_upper;
+
+// ST STC DST SRM EFST STUB STLB; x is the word read.
+pub fn store_operation(regs: &[u16; 16], ic: u16, sw: u16, pi: u16, n: Instruction, x: u16) -> Work
+    ensures { λ r. ⌜ worked (now (regs .entry)) r ≡ storeOperation (context (now (regs .entry)) ic sw pi) n x (operationOf (n .form)) ⌝ }
+{
+    let a = field_a(n.first);
+    let acc = accumulator_of(n);
+    let operation = n.form % 256;
+    match operation {
+        45 => stored(ic, sw, pi, n, get(regs, acc), 0, 0),
+        46 => stored(ic, sw, pi, n, a, 0, 0),
+        48 => stored(ic, sw, pi, n, get(regs, acc), get(regs, acc + 1), 0),
+        49 => stored(
+            ic,
+            sw,
+            pi,
+            n,
+            store_masked(x, get(regs, a), get(regs, a + 1)),
+            0,
+            0,
+        ),
+        51 => stored(
+            ic,
+            sw,
+            pi,
+            n,
+            get(regs, a),
+            get(regs, a + 1),
+            get(regs, a + 2),
+        ),
+        52 => stored(ic, sw, pi, n, store_upper(x, get(regs, a)), 0, 0),
+        53 => stored(ic, sw, pi, n, store_lower(x, get(regs, a)), 0, 0),
+        _ => nothing(ic, sw, pi, n),
+    }
+}

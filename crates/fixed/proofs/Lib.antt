@@ -1,0 +1,5 @@
+-- The laws of fixed point arithmetic.
+pub mod NarrowLaws
+pub mod SumLaws
+pub mod SumLines
+pub mod FixedRows

@@ -1,0 +1,2 @@
+-- The definitions of fixed point arithmetic.
+pub mod Fixed

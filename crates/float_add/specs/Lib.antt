@@ -1,0 +1,2 @@
+-- The definitions of floating point add and subtract.
+pub mod Add

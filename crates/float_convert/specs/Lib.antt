@@ -1,0 +1,2 @@
+-- The definitions of sign changes, comparison and conversion of floats.
+pub mod Convert

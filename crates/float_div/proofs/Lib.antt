@@ -1,0 +1,3 @@
+-- The laws of floating point divide.
+pub mod QuotientLaws
+pub mod Rows

@@ -1,0 +1,2 @@
+-- The definition of floating point divide.
+pub mod Divide

@@ -1,0 +1,63 @@
+// Floating point divide, on the 24 or 40 bits of a mantissa in a u64 and the standard's exponent plus 128: callers have both from the words of a float.
+ghost use mathlib.Core.Path.{_≡_};
+ghost use Prim.Native.Nat.{_-_, _*_, _/_, _^_, _≤_, _<_};
+ghost use Rattle.whole.specs.Whole.{signed};
+ghost use Rattle.float.specs.Float.{given};
+ghost use Rattle.exact.specs.Steps.{bit};
+ghost use Rattle.float_div.specs.Divide.{quotientOf};
+use exact::bit;
+use exact::finish;
+use exact::largest;
+use exact::lead;
+use exact::magnitude;
+use exact::signs_differ;
+use exact::upper24;
+use exact::zero;
+use float::Float;
+
+// a * 2^40, less 1 where neg, divided by b, for two magnitudes at the top of 40 bits: by two digits, so that each dividend is below 2^61.
+fn quotient(a: u64, b: u64, neg: bool) -> u64
+    requires { ⌜ (2 ^ 39 ≤ a) × (a < 2 ^ 40) × (2 ^ 39 ≤ b) × (b < 2 ^ 40) ⌝ }
+    ensures { λ r. ⌜ (r ≡ (a * 2 ^ 40 - bit neg) / b) × (2 ^ 38 ≤ r) ⌝ }
+{
+    let n = a * 0x10_0000;
+    let low = n % b * 0x10_0000 + b - bit(neg) as u64;
+    n / b * 0x10_0000 + low / b - 1
+}
+
+// The quotient with a mantissa of 40 bits (5.80).
+pub fn divide40(a: u64, ea: u32, b: u64, eb: u32) -> Float
+    requires { ⌜ (a < 2 ^ 40) × (ea < 256) × (b < 2 ^ 40) × (eb < 256) ⌝ }
+    ensures { λ r. ⌜ r ≡ given 40 (quotientOf 40 (signed 40 a) ea (signed 40 b) eb) ⌝ }
+{
+    let neg = signs_differ(a, b);
+    if b == 0 {
+        return largest(neg);
+    }
+    if eb + 127 < ea {
+        return largest(neg);
+    }
+    if ea + 128 < eb {
+        return zero(true);
+    }
+    // n + 1 where the quotient is 1.0 or more in magnitude
+    let n = ea + bit(magnitude(b) <= magnitude(a));
+    if eb + 127 < n {
+        return largest(neg);
+    }
+    if a == 0 {
+        return zero(false);
+    }
+    let x = lead(a);
+    let y = lead(b);
+    let q = quotient(x.value, y.value, neg);
+    finish(neg, q, ea + y.shift + 127, eb + x.shift)
+}
+
+// The quotient with a mantissa of 24 bits (5.79): the upper part of that with 40.
+pub fn divide24(a: u64, ea: u32, b: u64, eb: u32) -> Float
+    requires { ⌜ (a < 2 ^ 24) × (ea < 256) × (b < 2 ^ 24) × (eb < 256) ⌝ }
+    ensures { λ r. ⌜ r ≡ given 24 (quotientOf 24 (signed 24 a) ea (signed 24 b) eb) ⌝ }
+{
+    upper24(divide40(a * 0x1_0000, ea, b * 0x1_0000, eb))
+}

@@ -1,0 +1,3 @@
+-- The laws of floating point multiply.
+pub mod ProductLaws
+pub mod Rows

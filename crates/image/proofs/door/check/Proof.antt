@@ -1,0 +1,38 @@
+-- `image::door::check` meets its contract. Assumes nothing.
+use mathlib.Core.Path.{refl}
+use borrow.Author.Tests.{eq-eqb, ne-eqb, not-true, not-false}
+use Rattle.image.specs.Image.{asked, admission}
+use borrow.Author.Needs.{needs}
+use Rattle.image.proofs.door.check.Statement.{statement}
+use Rattle.image.proofs.door.check.Tie as tie
+use Rattle.image.proofs.door.check.Reads as reads
+use Rattle.image.proofs.door.check.Lts as lts
+use Rattle.image.proofs.door.check_image.Reads as check-image-reads
+use Rattle.image.proofs.door.whole_pages.Reads as whole-pages-reads
+
+whole-pages-requires : tie.Need-whole-pages-requires
+whole-pages-requires c κs = search needs
+
+returns : tie.Need-returns
+unfolding admission asked
+returns c = rw (← c .before .whole-pages .ensures, not-true (c .before .whole-pages .result) (c .if1 .taken)) refl
+
+returns-2 : tie.Need-returns-2
+unfolding admission asked
+returns-2 c = rw (← c .before .before .whole-pages .ensures, not-false (c .before .before .whole-pages .result) (c .before .if1 .left), ne-eqb _ _ (c .if2 .taken)) refl
+
+returns-3 : tie.Need-returns-3
+unfolding admission asked
+returns-3 c = rw (← c .before .before .before .whole-pages .ensures, not-false (c .before .before .before .whole-pages .result) (c .before .before .if1 .left), eq-eqb _ _ (c .before .if2 .left), ne-eqb _ _ (c .if3 .taken)) refl
+
+check-image-requires : tie.Need-check-image-requires
+check-image-requires c κs = search needs
+
+returns-4 : tie.Need-returns-4
+unfolding admission asked
+returns-4 c = rw (← c .before .before .before .before .whole-pages .ensures, not-false (c .before .before .before .before .whole-pages .result) (c .before .before .before .if1 .left), eq-eqb _ _ (c .before .before .if2 .left), eq-eqb _ _ (c .before .if3 .left)) (c .check-image .ensures)
+
+pub check-spec : {M : Type 1} → statement M
+check-spec =
+    tie.close
+    (tie.spec whole-pages-requires returns returns-2 returns-3 check-image-requires returns-4)

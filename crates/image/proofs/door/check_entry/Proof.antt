@@ -1,0 +1,56 @@
+-- `image::door::check_entry` meets its contract. Assumes nothing.
+use Rattle.image.proofs.DoorLaws.{kind-below, kind-above, no-words, outside, shared, entry-right}
+use borrow.Author.Needs.{needs}
+use Rattle.image.proofs.door.check_entry.Statement.{statement}
+use Rattle.image.proofs.door.check_entry.Tie as tie
+use Rattle.image.proofs.door.check_entry.Reads as reads
+use Rattle.image.proofs.door.check_entry.Lts as lts
+use Rattle.image.proofs.door.shares_earlier.Reads as shares-earlier-reads
+use Rattle.image.proofs.door.target_size.Reads as target-size-reads
+use Rattle.image.proofs.table.end.Reads as end-reads
+use Rattle.image.proofs.table.entry_at.Reads as entry-at-reads
+
+entry-at-requires : tie.Need-entry-at-requires
+entry-at-requires c κs = search needs
+
+returns : tie.Need-returns
+returns c = kind-below _ _ _ _ (c .before .before .entry-at .ensures) (c .if1 .taken)
+
+returns-2 : tie.Need-returns-2
+returns-2 c = kind-above _ _ _ _ (c .before .before .before .before .entry-at .ensures) (c .before .before .if1 .left) (c .if2 .taken)
+
+returns-3 : tie.Need-returns-3
+returns-3 c = no-words _ _ _ _ (c .before .before .before .before .before .before .entry-at .ensures) (c .before .before .before .before .if1 .left) (c .before .before .if2 .left) (c .if3 .taken)
+
+target-size-requires : tie.Need-target-size-requires
+target-size-requires c κs = search needs
+
+end-requires : tie.Need-end-requires
+end-requires c κs = search needs
+
+returns-4 : tie.Need-returns-4
+returns-4 c = outside _ _ _ _ (c .before .before .before .before .before .before .before .before .before .entry-at .ensures) (c .before .before .before .before .before .before .before .if1 .left) (c .before .before .before .before .before .if2 .left) (c .before .before .before .if3 .left) _ (c .before .before .target-size .ensures) _ (c .before .end .ensures) (c .if4 .taken)
+
+shares-earlier-requires : tie.Need-shares-earlier-requires
+shares-earlier-requires c κs = search needs
+
+returns-5 : tie.Need-returns-5
+returns-5 c = shared _ _ _ _ (c .before .before .before .before .before .before .before .before .before .before .before .entry-at .ensures) (c .before .before .before .before .before .before .before .before .before .if1 .left) (c .before .before .before .before .before .before .before .if2 .left) (c .before .before .before .before .before .if3 .left) _ (c .before .before .before .before .target-size .ensures) _ (c .before .before .before .end .ensures) (c .before .before .if4 .left) _ (c .before .shares-earlier .ensures) (c .if5 .taken)
+
+returns-6 : tie.Need-returns-6
+returns-6 c = entry-right _ _ _ _ (c .before .before .before .before .before .before .before .before .before .before .before .entry-at .ensures) (c .before .before .before .before .before .before .before .before .before .if1 .left) (c .before .before .before .before .before .before .before .if2 .left) (c .before .before .before .before .before .if3 .left) _ (c .before .before .before .before .target-size .ensures) _ (c .before .before .before .end .ensures) (c .before .before .if4 .left) _ (c .before .shares-earlier .ensures) (c .if5 .left)
+
+pub check-entry-spec : {M : Type 1} → statement M
+check-entry-spec =
+    tie.close
+    (tie.spec
+    entry-at-requires
+    returns
+    returns-2
+    returns-3
+    target-size-requires
+    end-requires
+    returns-4
+    shares-earlier-requires
+    returns-5
+    returns-6)

@@ -1,0 +1,16 @@
+-- `interrupt::pending::take` meets its contract. Assumes nothing.
+use mathlib.Core.Path.{refl}
+use Rattle.machine.specs.Entries.{takeable}
+use Rattle.interrupt.proofs.pending.take.Statement.{statement}
+use Rattle.interrupt.proofs.pending.take.Tie as tie
+
+returns : tie.Need-returns
+unfolding takeable
+returns c = λ s e m. rw (e, m, c .if1 .taken) refl
+
+returns-2 : tie.Need-returns-2
+unfolding takeable
+returns-2 c = λ s e m. rw (e, m, c .if1 .left) refl
+
+pub take-spec : {M : Type 1} → statement M
+take-spec = tie.close (tie.spec returns returns-2)

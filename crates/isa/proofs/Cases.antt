@@ -1,0 +1,166 @@
+-- Chosen cases of the instruction set, each run as one step of the machine against the definitions: the places where a reading could go wrong.
+-- Rows of one table that the checker computes. Assumes nothing.
+use Prim.Native.Nat.{ℕ, _+_, _%_}
+use mathlib.Core.Bool.{Bool, true, false, _&&_, Bool·beq}
+use mathlib.Core.List.{List, [], _∷_}
+use lib.Dec.{T, eqb}
+use lib.ListN.{replicate, getD, set}
+use Rattle.choice.specs.Table.{tableOf}
+use Rattle.machine.specs.declared.State.{State}
+use Rattle.machine.specs.Machine.{Machine, machine}
+use Rattle.machine.specs.Step.{step}
+use Rattle.machine.proofs.Opened.{machinery}
+use Rattle.isa.specs.Mil1750.{mil1750}
+use Rattle.isa.proofs.OpenWords.{words}
+use Rattle.isa.proofs.OpenFloats.{floats}
+use Rattle.isa.proofs.OpenDecoder.{decoder}
+use Rattle.isa.proofs.OpenInstructions.{instructions}
+use Rattle.isa.proofs.Known.{same}
+
+-- words at their places
+abbrev pub Words : Type 0
+Words = List (ℕ × ℕ)
+
+-- a list with these words in it
+unfoldable pub with : Words → List ℕ → List ℕ
+with [] l = l
+with (w ∷ ws) l = with ws (set l (w .0) (w .1))
+
+-- what is not 0 before the step in a memory of 8,192 words, in the page registers (beside their reset values) and in R0 to R15, and SW, PI and FT;
+-- then what is not 0 in R0 to R15 after it, IC, SW, MK, PI, FT, the hold mark, and words of the memory
+pub record Case : Type 0 where
+  pub memory : Words
+  pub pages : Words
+  pub regs : Words
+  pub sw : ℕ
+  pub pi : ℕ
+  pub ft : ℕ
+  pub regs' : Words
+  pub ic' : ℕ
+  pub sw' : ℕ
+  pub mk' : ℕ
+  pub pi' : ℕ
+  pub ft' : ℕ
+  pub hold' : Bool
+  pub memory' : Words
+
+abbrev pub made : Words → Words → Words → ℕ → ℕ → ℕ → Words → ℕ → ℕ → ℕ → ℕ → ℕ → Bool → Words → Case
+made m g r s p f r' i' s' k' p' f' h' m' =
+    record { memory = m; pages = g; regs = r; sw = s; pi = p; ft = f; regs' = r'; ic' = i'; sw' = s'; mk' = k'; pi' = p'; ft' = f'; hold' = h'; memory' = m' }
+
+unfoldable pub cases : List Case
+cases =
+    -- MOV moves one word a step; IC stays while the count is not zero
+    made ((0x0, 0x9313) ∷ (0x30, 0xABCD) ∷ []) [] ((1, 0x0040) ∷ (2, 0x0002) ∷ (3, 0x0030) ∷ []) 0x0000 0x0000 0x0000
+    ((1, 0x0041) ∷ (2, 0x0001) ∷ (3, 0x0031) ∷ []) 0x0000 0x0000 0x0000 0x0000 0x0000 false ((0x40, 0xABCD) ∷ (0x41, 0x0000) ∷ []) ∷
+    -- MOV's last word lets IC go on
+    made ((0x0, 0x9313) ∷ (0x30, 0xABCD) ∷ []) [] ((1, 0x0040) ∷ (2, 0x0001) ∷ (3, 0x0030) ∷ []) 0x0000 0x0000 0x0000
+    ((1, 0x0041) ∷ (3, 0x0031) ∷ []) 0x0001 0x0000 0x0000 0x0000 0x0000 false ((0x40, 0xABCD) ∷ (0x41, 0x0000) ∷ []) ∷
+    -- MOV with a count of 0 moves nothing, though its addresses lie outside the memory
+    made ((0x0, 0x9313) ∷ []) [] ((1, 0x8000) ∷ (2, 0x0000) ∷ (3, 0x9000) ∷ []) 0x0000 0x0000 0x0000
+    ((1, 0x8000) ∷ (3, 0x9000) ∷ []) 0x0001 0x0000 0x0000 0x0000 0x0000 false ((0x40, 0x0000) ∷ []) ∷
+    -- MOV with RB = RA moves its address by 2
+    made ((0x0, 0x9311) ∷ (0x30, 0x0007) ∷ []) [] ((1, 0x0030) ∷ (2, 0x0005) ∷ []) 0x0000 0x0000 0x0000
+    ((1, 0x0032) ∷ (2, 0x0004) ∷ []) 0x0000 0x0000 0x0000 0x0000 0x0000 false ((0x30, 0x0007) ∷ (0x31, 0x0000) ∷ []) ∷
+    -- MOV with RB = RA + 1: the count does not fall
+    made ((0x0, 0x9312) ∷ (0x30, 0x0007) ∷ []) [] ((1, 0x0040) ∷ (2, 0x0030) ∷ []) 0x0000 0x0000 0x0000
+    ((1, 0x0041) ∷ (2, 0x0030) ∷ []) 0x0000 0x0000 0x0000 0x0000 0x0000 false ((0x40, 0x0007) ∷ []) ∷
+    -- POPM R14,R0 skips the word of R15, and R15 rises by 3
+    made ((0x0, 0x8FE0) ∷ (0x50, 0x0001) ∷ (0x51, 0x0002) ∷ (0x52, 0x0003) ∷ []) [] ((15, 0x0050) ∷ []) 0x0000 0x0000 0x0000
+    ((0, 0x0003) ∷ (14, 0x0001) ∷ (15, 0x0053) ∷ []) 0x0001 0x0000 0x0000 0x0000 0x0000 false ((0x50, 0x0001) ∷ (0x51, 0x0002) ∷ (0x52, 0x0003) ∷ []) ∷
+    -- POPM R15,R15 only adds 1 to R15, whose word lies outside the memory
+    made ((0x0, 0x8FFF) ∷ []) [] ((15, 0x7000) ∷ []) 0x0000 0x0000 0x0000
+    ((15, 0x7001) ∷ []) 0x0001 0x0000 0x0000 0x0000 0x0000 false ((0x50, 0x0000) ∷ []) ∷
+    -- PSHM R14,R2 stores R15 as it is just then
+    made ((0x0, 0x9FE2) ∷ []) [] ((0, 0x000A) ∷ (1, 0x000B) ∷ (2, 0x000C) ∷ (14, 0x000E) ∷ (15, 0x0050) ∷ []) 0x0000 0x0000 0x0000
+    ((0, 0x000A) ∷ (1, 0x000B) ∷ (2, 0x000C) ∷ (14, 0x000E) ∷ (15, 0x004B) ∷ []) 0x0001 0x0000 0x0000 0x0000 0x0000 false ((0x4A, 0x0000) ∷ (0x4B, 0x000E) ∷ (0x4C, 0x004C) ∷ (0x4D, 0x000A) ∷ (0x4E, 0x000B) ∷ (0x4F, 0x000C) ∷ (0x50, 0x0000) ∷ []) ∷
+    -- LM 2 loads R0 to R2
+    made ((0x0, 0x8920) ∷ (0x1, 0x0030) ∷ (0x30, 0x0005) ∷ (0x31, 0x0006) ∷ (0x32, 0x0007) ∷ (0x33, 0x0008) ∷ []) [] ((3, 0x0009) ∷ []) 0x2000 0x0000 0x0000
+    ((0, 0x0005) ∷ (1, 0x0006) ∷ (2, 0x0007) ∷ (3, 0x0009) ∷ []) 0x0002 0x2000 0x0000 0x0000 0x0000 false ((0x30, 0x0005) ∷ []) ∷
+    -- STM 1 stores R0 and R1
+    made ((0x0, 0x9910) ∷ (0x1, 0x0030) ∷ []) [] ((0, 0x0005) ∷ (1, 0x0006) ∷ (2, 0x0007) ∷ []) 0x0000 0x0000 0x0000
+    ((0, 0x0005) ∷ (1, 0x0006) ∷ (2, 0x0007) ∷ []) 0x0002 0x0000 0x0000 0x0000 0x0000 false ((0x30, 0x0005) ∷ (0x31, 0x0006) ∷ (0x32, 0x0000) ∷ []) ∷
+    -- SJS stores the next address below RA
+    made ((0x0, 0x7E50) ∷ (0x1, 0x0020) ∷ []) [] ((5, 0x0040) ∷ []) 0x1000 0x0000 0x0000
+    ((5, 0x003F) ∷ []) 0x0020 0x1000 0x0000 0x0000 0x0000 false ((0x3F, 0x0002) ∷ (0x40, 0x0000) ∷ []) ∷
+    -- URS takes it back
+    made ((0x0, 0x7F50) ∷ (0x3F, 0x0022) ∷ []) [] ((5, 0x003F) ∷ []) 0x1000 0x0000 0x0000
+    ((5, 0x0040) ∷ []) 0x0022 0x1000 0x0000 0x0000 0x0000 false ((0x3F, 0x0022) ∷ []) ∷
+    -- R0 does not index
+    made ((0x0, 0x8010) ∷ (0x1, 0x0030) ∷ (0x30, 0x0003) ∷ (0x35, 0x0004) ∷ []) [] ((0, 0x0005) ∷ []) 0x0000 0x0000 0x0000
+    ((0, 0x0005) ∷ (1, 0x0003) ∷ []) 0x0002 0x4000 0x0000 0x0000 0x0000 false ((0x30, 0x0003) ∷ []) ∷
+    -- a branch goes from its own address
+    made ((0x0, 0x7410) ∷ []) [] [] 0x0000 0x0000 0x0000
+    [] 0x0010 0x0000 0x0000 0x0000 0x0000 false ((0x0, 0x7410) ∷ []) ∷
+    -- DLB has R0 and R1 as its accumulator, by R13 and a displacement
+    made ((0x0, 0x0502) ∷ (0x32, 0x8000) ∷ (0x33, 0x0001) ∷ []) [] ((13, 0x0030) ∷ []) 0x0000 0x0000 0x0000
+    ((0, 0x8000) ∷ (1, 0x0001) ∷ (13, 0x0030) ∷ []) 0x0001 0x1000 0x0000 0x0000 0x0000 false ((0x32, 0x8000) ∷ []) ∷
+    -- STBX has R2, by R12 and R3
+    made ((0x0, 0x4023) ∷ []) [] ((2, 0x0009) ∷ (3, 0x0002) ∷ (12, 0x0030) ∷ []) 0x0000 0x0000 0x0000
+    ((2, 0x0009) ∷ (3, 0x0002) ∷ (12, 0x0030) ∷ []) 0x0001 0x0000 0x0000 0x0000 0x0000 false ((0x32, 0x0009) ∷ []) ∷
+    -- a double store over a page's end is refused whole where the second page is write protected
+    made ((0x0, 0x9650) ∷ (0x1, 0x0FFF) ∷ []) ((257, 0x0801) ∷ []) ((5, 0x0001) ∷ (6, 0x0002) ∷ []) 0x0000 0x0000 0x0000
+    ((5, 0x0001) ∷ (6, 0x0002) ∷ []) 0x0002 0x0000 0x0000 0x4000 0x8000 false ((0xFFF, 0x0000) ∷ []) ∷
+    -- a read-modify-write outside the memory and write protected: the read refuses first
+    made ((0x0, 0x5070) ∷ (0x1, 0x3000) ∷ []) ((259, 0x0805) ∷ []) [] 0x0000 0x0000 0x0000
+    [] 0x0002 0x0000 0x0000 0x4000 0x0080 false ((0x0, 0x5070) ∷ []) ∷
+    -- JCI 0 reads its indirect word all the same
+    made ((0x0, 0x7100) ∷ (0x1, 0x9000) ∷ []) [] [] 0x0000 0x0000 0x0000
+    [] 0x0002 0x0000 0x0000 0x4000 0x0080 false ((0x0, 0x7100) ∷ []) ∷
+    -- TSB tests, then sets
+    made ((0x0, 0x5900) ∷ (0x1, 0x0030) ∷ []) [] [] 0x0000 0x0000 0x0000
+    [] 0x0002 0x2000 0x0000 0x0000 0x0000 false ((0x30, 0x8000) ∷ []) ∷
+    -- CO is an illegal command
+    made ((0x0, 0x4850) ∷ (0x1, 0x4000) ∷ []) [] [] 0x0000 0x0000 0x0000
+    [] 0x0002 0x0000 0x0000 0x4000 0x0400 false ((0x0, 0x4850) ∷ []) ∷
+    -- XIO is privileged
+    made ((0x0, 0x4850) ∷ (0x1, 0x2000) ∷ []) ((0, 0xF000) ∷ (256, 0xF000) ∷ []) [] 0x0030 0x0000 0x0000
+    [] 0x0001 0x0030 0x0000 0x4000 0x0020 false ((0x0, 0x4850) ∷ []) ∷
+    -- RPI of 1 clears FT too, by the low four bits of RA
+    made ((0x0, 0x4850) ∷ (0x1, 0x2004) ∷ []) [] ((5, 0xFFF1) ∷ []) 0x0000 0x4100 0x0400
+    ((5, 0xFFF1) ∷ []) 0x0002 0x0000 0x0000 0x0100 0x0000 false ((0x0, 0x4850) ∷ []) ∷
+    -- SPI replaces PI and sets the hold mark
+    made ((0x0, 0x4850) ∷ (0x1, 0x2005) ∷ []) [] ((5, 0x0100) ∷ []) 0x0000 0x4000 0x0400
+    ((5, 0x0100) ∷ []) 0x0002 0x0000 0x0000 0x0100 0x0400 true ((0x0, 0x4850) ∷ []) ∷
+    -- LST loads MK, SW and IC
+    made ((0x0, 0x7D00) ∷ (0x1, 0x0030) ∷ (0x30, 0x1111) ∷ (0x31, 0x2222) ∷ (0x32, 0x0033) ∷ []) [] [] 0x0000 0x0000 0x0000
+    [] 0x0033 0x2222 0x1111 0x0000 0x0000 false ((0x30, 0x1111) ∷ []) ∷
+    -- XWR exchanges, and CS is RA's
+    made ((0x0, 0xED12) ∷ []) [] ((1, 0x0005) ∷ (2, 0x8000) ∷ []) 0x0000 0x0000 0x0000
+    ((1, 0x8000) ∷ (2, 0x0005) ∷ []) 0x0001 0x1000 0x0000 0x0000 0x0000 false ((0x0, 0xED12) ∷ []) ∷
+    -- DVR: the remainder has the dividend's sign
+    made ((0x0, 0xD112) ∷ []) [] ((1, 0xFFF9) ∷ (2, 0x0002) ∷ []) 0x0000 0x0000 0x0000
+    ((1, 0xFFFD) ∷ (2, 0xFFFF) ∷ []) 0x0001 0x1000 0x0000 0x0000 0x0000 false ((0x0, 0xD112) ∷ []) ∷
+    -- SAR: the sign changes on its way and comes back
+    made ((0x0, 0x6B12) ∷ []) [] ((1, 0xA000) ∷ (2, 0x0002) ∷ []) 0x0000 0x0000 0x0000
+    ((1, 0x8000) ∷ (2, 0x0002) ∷ []) 0x0001 0x1000 0x0000 0x0800 0x0000 false ((0x0, 0x6B12) ∷ []) ∷
+    []
+
+-- these words are in a list
+unfoldable pub among : Words → List ℕ → Bool
+among [] l = true
+among (w ∷ ws) l = eqb (getD l (w .0) 0) (w .1) && among ws l
+
+-- the machine before the step
+unfoldable pub started : Case → Machine
+started c =
+    machine
+    (record { regs = with (c .regs) (replicate 16 0); ic = 0; sw = c .sw; mk = 0; pi = c .pi; ft = c .ft; enabled = false; hold = false; ta = 0; tb = 0; taon = true; tbon = true; count = 0 })
+    (with (c .memory) (replicate 8192 0))
+    (with (c .pages) (tableOf (λ k. k % 16) 0 512))
+    (replicate 1024 0)
+
+-- what the row says of the machine after it
+unfoldable pub shown : Case → Machine → Bool
+shown c x =
+    let s = x .state in
+    same (with (c .regs') (replicate 16 0)) (s .regs) && eqb (s .ic) (c .ic') && eqb (s .sw) (c .sw') && eqb (s .mk) (c .mk') && eqb (s .pi) (c .pi')
+    && eqb (s .ft) (c .ft') && Bool·beq (s .hold) (c .hold') && among (c .memory') (x .memory)
+
+unfoldable pub all : List Case → Bool
+all [] = true
+all (c ∷ cs) = shown c (step mil1750 (started c)) && all cs
+
+pub cases-hold : T (all cases)
+unfolding words floats decoder machinery instructions same with cases among started shown all
+cases-hold = tt

@@ -1,0 +1,12 @@
+-- The definitions of the MIL-STD-1750A's instructions.
+pub mod Fields
+pub mod Addressing
+pub mod Accesses
+pub mod Effects
+pub mod Words
+pub mod Blocks
+pub mod Integers
+pub mod Floats
+pub mod Execute
+pub mod Commands
+pub mod Mil1750

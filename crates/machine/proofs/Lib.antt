@@ -1,0 +1,10 @@
+-- The laws of the processor, property 3, and rows of known cases.
+pub mod MachineLaws
+pub mod InterruptLaws
+pub mod SameLaws
+pub mod InstructionLaws
+pub mod RunLaws
+pub mod StepLaws
+pub mod Isolation
+pub mod Opened
+pub mod Rows

@@ -1,0 +1,162 @@
+-- Two machines compared, step by step: a step is an entry in both or in neither, and one that is none leads to such a pair again.
+-- Assumes nothing.
+use Prim.Native.Nat.{ℕ, zero, suc}
+use mathlib.Core.Path.{_≡_, refl, ap, _∙_, subst}
+use mathlib.Core.Logic.{_≢_}
+use mathlib.Core.Bool.{Bool, true, false, true≢false}
+use mathlib.Core.List.{List}
+use mathlib.Core.Option.{none}
+use native.Mathlib.Omega.{arith}
+use lib.Dec.{ltb}
+use lib.ListN.{length}
+use Rattle.page.specs.declared.Access.the-variants.{Write}
+use Rattle.page.specs.Pages.{May, MaySee}
+use Rattle.page.specs.Spans.{written}
+use Rattle.machine.specs.declared.State.{State}
+use Rattle.machine.specs.State.{keyOf, groupOf, withCs, withRegs, withIc, withSw, withPi, withFt, withHold, withTa, withTb, withCount}
+use Rattle.machine.specs.Machine.{Machine, machine, Isa}
+use Rattle.machine.specs.Instructions.{Action, enter, call, fail, affect, govern, View}
+use Rattle.machine.specs.Entries.{chosen}
+use Rattle.machine.specs.Step.{released, faulted, affected, stored, perform, ticked, tick, isEntry, begun, action, step}
+use Rattle.machine.specs.Runs.{steps, entryWithin, hereOr, later}
+use Rattle.machine.specs.Isolation.{Alike, key, group, Compared, Found}
+use Rattle.page.proofs.ReachLaws.{written-barred}
+use Rattle.machine.proofs.SameLaws.{Same, written-same}
+use Rattle.machine.proofs.InstructionLaws.{view-same, Governed, instructed-governed}
+use Rattle.machine.proofs.RunLaws.{some≢none, later-none}
+
+-- ---- pairs of machines
+
+-- nothing has happened yet
+pub found-start : (x y : Machine) → Compared x y → Found x y x y
+found-start x y c = record {
+  alike = c .alike;
+  seen = c .seen;
+  first-kept = λ p n. refl;
+  second-kept = λ p n. refl;
+  pages-kept = refl;
+  key-kept = refl;
+  group-kept = refl;
+}
+
+-- such a pair may be compared again
+pub compared-again : (x y x' y' : Machine) → Compared x y → Found x y x' y' → Compared x' y'
+compared-again x y x' y' c f = record {
+  alike = f .alike;
+  keyed = rw (f .key-kept) (c .keyed);
+  seen = rw (f .key-kept, f .group-kept, f .pages-kept) (f .seen);
+}
+
+-- and what is found then is found of the first pair
+pub found-found : (x y x' y' x'' y'' : Machine) → Found x y x' y' → Found x' y' x'' y'' → Found x y x'' y''
+found-found x y x' y' x'' y'' f h = record {
+  alike = h .alike;
+  seen = rw (f .key-kept, f .group-kept, f .pages-kept) at (h .seen);
+  first-kept = λ p n. (rw (f .key-kept, f .group-kept, f .pages-kept) at (h .first-kept)) p n ∙ f .first-kept p n;
+  second-kept = λ p n. (rw (f .key-kept, f .group-kept, f .pages-kept) at (h .second-kept)) p n ∙ f .second-kept p n;
+  pages-kept = h .pages-kept ∙ f .pages-kept;
+  key-kept = h .key-kept ∙ f .key-kept;
+  group-kept = h .group-kept ∙ f .group-kept;
+}
+
+-- ---- one step of two machines that share all but their memories
+
+keeps-key : (sw cs : ℕ) → keyOf (withCs sw cs) ≡ keyOf sw
+unfolding keyOf withCs
+keeps-key sw cs = omega arith
+
+keeps-group : (sw cs : ℕ) → groupOf (withCs sw cs) ≡ groupOf sw
+unfolding groupOf withCs
+keeps-group sw cs = omega arith
+
+module _ (isa : Isa) (s : State) (m₁ m₂ g o : List ℕ) (h : Same (MaySee (keyOf (s .sw)) (groupOf (s .sw)) g) m₁ m₂) where
+  action-shared : action isa (machine s m₁ g o) ≡ action isa (machine s m₂ g o)
+  unfolding action released withHold
+  action-shared = ap (λ (v : View). begun isa (released s) g o v (chosen s) (ltb (chosen s) 16)) (view-same (released s) m₁ m₂ g h)
+
+  -- an action that is no entry and nothing privileged
+  performed-found : (d : Action) → isEntry d ≡ false → Governed (λ r. ⊥) d
+      → Found (machine s m₁ g o) (machine s m₂ g o) (tick (perform (released s) m₁ g o d)) (tick (perform (released s) m₂ g o d))
+  unfolding perform tick isEntry stored released withHold faulted affected ticked withRegs withIc withSw withPi withFt withTa withTb withCount
+  performed-found (enter n) e u = absurd (true≢false e)
+  performed-found (call n) e u = absurd (true≢false e)
+  performed-found (fail b a) e u = record {
+    alike = record { state = refl; pages = refl; ports = refl; size = h .size };
+    seen = h .agree;
+    first-kept = λ p n. refl;
+    second-kept = λ p n. refl;
+    pages-kept = refl;
+    key-kept = refl;
+    group-kept = refl;
+  }
+  performed-found (affect f p) e u =
+      let k : ℕ = keyOf (s .sw) in
+      let a : ℕ = groupOf (s .sw) in
+      let z : ℕ = length m₂ in
+      let w : Same (MaySee k a g) (written k a g z p (f .words) m₁) (written k a g z p (f .words) m₂) = written-same k a g z p (MaySee k a g) (f .words) m₁ m₂ h in
+      rw (h .size) (record {
+        alike = record { state = refl; pages = refl; ports = refl; size = w .size };
+        seen = w .agree;
+        first-kept = λ q n. written-barred k a g z p (f .words) m₁ q n;
+        second-kept = λ q n. written-barred k a g z p (f .words) m₂ q n;
+        pages-kept = refl;
+        key-kept = keeps-key (s .sw) (f .cs);
+        group-kept = keeps-group (s .sw) (f .cs);
+      })
+  performed-found (govern r) e u = absurd u
+
+  begun-governed : (v : View) → keyOf (s .sw) ≢ 0 → (n : ℕ) (b : Bool) → Governed (λ r. ⊥) (begun isa (released s) g o v n b)
+  unfolding begun released withHold
+  begun-governed v k n true = tt
+  begun-governed v k n false = instructed-governed isa (released s) v g o (λ r. ⊥) (λ z. absurd (k z))
+
+  step-shared : keyOf (s .sw) ≢ 0 → isEntry (action isa (machine s m₁ g o)) ≡ false
+      → Found (machine s m₁ g o) (machine s m₂ g o) (step isa (machine s m₁ g o)) (step isa (machine s m₂ g o))
+  unfolding step action
+  step-shared k e =
+      rw (← action-shared) (performed-found (action isa (machine s m₁ g o)) e (begun-governed _ k (chosen s) (ltb (chosen s) 16)))
+
+-- ---- one step of any two machines that are compared
+
+-- the second machine is the first with another memory
+shared : (P : Machine → Type 0) (x y : Machine) → Alike x y → P (machine (x .state) (y .memory) (x .pages) (x .ports)) → P y
+shared P x y a h = subst P (λ i. record { state = a .state i; memory = y .memory; pages = a .pages i; ports = a .ports i }) h
+
+same-of : (x y : Machine) → Compared x y → Same (MaySee (key x) (group x) (x .pages)) (x .memory) (y .memory)
+same-of x y c = record { size = c .alike .size; agree = c .seen }
+
+pub action-same : (isa : Isa) (x y : Machine) → Compared x y → action isa x ≡ action isa y
+action-same isa x y c =
+    shared (λ z. action isa x ≡ action isa z) x y (c .alike) (action-shared isa (x .state) (x .memory) (y .memory) (x .pages) (x .ports) (same-of x y c))
+
+pub step-found : (isa : Isa) (x y : Machine) → Compared x y → isEntry (action isa x) ≡ false → Found x y (step isa x) (step isa y)
+step-found isa x y c e =
+    shared (λ z. Found x z (step isa x) (step isa z)) x y (c .alike)
+    (step-shared isa (x .state) (x .memory) (y .memory) (x .pages) (x .ports) (same-of x y c) (c .keyed) e)
+
+-- ---- any number of steps
+
+pub record Both (isa : Isa) (n : ℕ) (x y : Machine) : Type 0 where
+  pub entry : entryWithin isa n x ≡ entryWithin isa n y
+  pub found : entryWithin isa n x ≡ none → Found x y (steps isa n x) (steps isa n y)
+
+-- the first step is known: an entry, or one that leads to such a pair again
+both-suc : (isa : Isa) (n : ℕ) (x y : Machine) → Compared x y → ((x' y' : Machine) → Compared x' y' → Both isa n x' y')
+    → (b : Bool) → isEntry (action isa x) ≡ b → Both isa (suc n) x y
+unfolding steps entryWithin hereOr
+both-suc isa n x y c ih true e = record {
+  entry = rw (← action-same isa x y c, e) refl;
+  found = λ h. some≢none 0 (rw e at h);
+}
+both-suc isa n x y c ih false e =
+    let f : Found x y (step isa x) (step isa y) = step-found isa x y c e in
+    let b : Both isa n (step isa x) (step isa y) = ih (step isa x) (step isa y) (compared-again x y _ _ c f) in
+    record {
+      entry = rw (← action-same isa x y c, e) (ap (later 1) (b .entry));
+      found = λ h. found-found x y _ _ _ _ f (b .found (later-none 1 _ (rw e at h)));
+    }
+
+pub both-steps : (isa : Isa) (n : ℕ) (x y : Machine) → Compared x y → Both isa n x y
+unfolding steps entryWithin
+both-steps isa zero x y c = record { entry = refl; found = λ h. found-start x y c }
+both-steps isa (suc n) x y c = both-suc isa n x y c (λ x' y' c'. both-steps isa n x' y' c') (isEntry (action isa x)) refl

@@ -1,0 +1,2 @@
+-- The laws of operations on at most three words.
+pub mod OrdinaryLaws

@@ -1,0 +1,117 @@
+-- A span of at most three words, word by word; the rule of an operation by its range. Assumes nothing.
+use Prim.Native.Nat.{ℕ, zero, suc, _+_, _%_, _≤_, _<_}
+use mathlib.Core.Path.{_≡_, refl, sym, ap, _∙_}
+use mathlib.Core.Bool.{Bool, true, false, cond}
+use mathlib.Core.List.{List, [], _∷_}
+use native.Mathlib.Omega.{arith}
+use lib.Dec.{ltb}
+use lib.ListN.{length, getD}
+use Rattle.choice.specs.Select.{ruleAt, spans, below}
+use Rattle.choice.proofs.SelectLaws.{ranged, beyond}
+use Rattle.page.specs.declared.Span.{Span}
+use Rattle.page.specs.declared.Access.the-variants.{Read, Write}
+use Rattle.page.specs.declared.Got.{Got}
+use Rattle.page.specs.Pages.{lookup}
+use Rattle.page.specs.Spans.{wrapped, gotAt, wordOf, putAt, passed, wordsOf, writtenFrom, written}
+use Rattle.page.proofs.SpanLaws.{passed-elim}
+use Rattle.page.proofs.EachLaws.{addressOf, put-length, words-at, words-zero}
+use Rattle.machine.specs.declared.Instruction.{Instruction}
+use Rattle.machine.specs.Machine.{Effect}
+use Rattle.isa.specs.Effects.{Context, nothing, three}
+use Rattle.isa.specs.Words.{bitOperation, shiftOperation, jumpOperation, loadOperation, storeOperation}
+use Rattle.isa.specs.Integers.{integerOperation, logicalOperation}
+use Rattle.isa.specs.Floats.{floatOperation}
+use Rattle.isa.specs.Execute.{ordinary}
+use Rattle.ordinary.specs.Stores.{storedOne}
+
+-- ---- words read
+
+module _ (key group : ℕ) (g : List ℕ) (size : ℕ) (p : Span) (m : List ℕ) (j a : ℕ) where
+  -- word number j, got at its address
+  pub word-there : j < p .count → (j ≡ p .hole → ⊥) → j < 3 → (q : Got) → q ≡ gotAt m (lookup Read key group g size a) → (w : ℕ) → w ≡ wordOf q
+      → a ≡ addressOf p j → w ≡ getD (wordsOf key group g size p m) j 0
+  word-there l h b q e w f i =
+      f ∙ ap wordOf e ∙ ap (λ r. wordOf (gotAt m (lookup Read key group g size r))) i ∙ sym (words-at key group g size p m j l h (omega arith))
+
+  pub word-absent : (j < p .count → j ≡ p .hole) → a ≡ addressOf p j → 0 ≡ getD (wordsOf key group g size p m) j 0
+  word-absent h i = sym (words-zero key group g size p m j h)
+
+-- the addresses of the second and third word
+pub third-address : (p : Span) (b c : ℕ) → b ≡ (p .start + p .stride) % 65536 → c ≡ (b + p .stride) % 65536 → c ≡ addressOf p 2
+unfolding wrapped
+third-address p b c e f = rw (f, e) refl
+
+-- ---- stores
+
+module _ (key group : ℕ) (g : List ℕ) (size : ℕ) (p : Span) (j a v : ℕ) (m : List ℕ) where
+  stored-length : length (storedOne key group g size p j a v m) ≡ length m
+  unfolding storedOne
+  stored-length = by (ltb j (p .count))
+    where
+      by : (b : Bool) → length (cond b (passed p j m (putAt m (lookup Write key group g size a) v)) m) ≡ length m
+      by true = passed-elim p j (λ x. length x ≡ length m) m _ (λ e. refl) (λ e. put-length m _ v)
+      by false = refl
+
+module _ (key group : ℕ) (g : List ℕ) (size : ℕ) (p : Span) (x y z : ℕ) (m : List ℕ) where
+  by-count : (n : ℕ) → p .count ≡ n → n ≤ 3
+      → written key group g size p (three x y z) m
+      ≡ storedOne key group g size p 2 (wrapped (wrapped (p .start + p .stride) + p .stride)) z
+      (storedOne key group g size p 1 (wrapped (p .start + p .stride)) y
+      (storedOne key group g size p 0 (p .start) x m))
+  unfolding written writtenFrom storedOne
+  by-count zero e h = rw e refl
+  by-count (suc zero) e h = rw e refl
+  by-count (suc (suc zero)) e h = rw e refl
+  by-count (suc (suc (suc zero))) e h = rw e refl
+  by-count (suc (suc (suc (suc n)))) e h = absurd (omega arith)
+
+-- the memories after each of the three stores
+pub three-stored : (key group : ℕ) (g : List ℕ) (p : Span) (x y z : ℕ) (m : List ℕ) → p .count ≤ 3
+    → (b c : ℕ) → b ≡ (p .start + p .stride) % 65536 → c ≡ (b + p .stride) % 65536
+    → (m₁ m₂ m₃ : List ℕ) → m₁ ≡ storedOne key group g (length m) p 0 (p .start) x m
+    → m₂ ≡ storedOne key group g (length m₁) p 1 b y m₁
+    → m₃ ≡ storedOne key group g (length m₂) p 2 c z m₂
+    → m₃ ≡ written key group g (length m) p (three x y z) m
+unfolding wrapped
+three-stored key group g p x y z m h b c e f m₁ m₂ m₃ i j k =
+    let l : length m₁ ≡ length m = ap length i ∙ stored-length key group g (length m) p 0 (p .start) x m in
+    let o : length m₂ ≡ length m₁ = ap length j ∙ stored-length key group g (length m₁) p 1 b y m₁ in
+    k
+    ∙ ap (λ n. storedOne key group g n p 2 c z m₂) (o ∙ l)
+    ∙ ap (storedOne key group g (length m) p 2 c z) (j ∙ ap (λ n. storedOne key group g n p 1 b y m₁) l ∙ ap (storedOne key group g (length m) p 1 b y) i)
+    ∙ rw (f, e) (sym (by-count key group g (length m) p x y z m (p .count) refl h))
+
+-- ---- the rule of a range
+
+module _ (v : Context) (n : Instruction) (x y z operation : ℕ) where
+  abbrev pub rules : List (ℕ × Effect)
+  rules =
+      let integer = integerOperation v n x y operation in
+      let float = floatOperation v n x y z operation in
+      let logical = logicalOperation v n x y operation in
+      (9, bitOperation v n x operation) ∷
+      (23, shiftOperation v n operation) ∷
+      (37, jumpOperation v n x operation) ∷
+      (44, loadOperation v n x y z operation) ∷
+      (54, storeOperation v n x operation) ∷
+      (59, integer) ∷
+      (62, float) ∷
+      (67, integer) ∷
+      (70, float) ∷
+      (73, integer) ∷
+      (75, float) ∷
+      (78, integer) ∷
+      (80, float) ∷
+      (84, logical) ∷
+      (88, float) ∷
+      (93, logical) ∷
+      (95, float) ∷
+      []
+
+  pub in-range : (i lo hi : ℕ) → spans i lo hi rules ≡ true → lo ≤ operation → operation < hi → ruleAt i rules (nothing v n) ≡ ordinary v n x y z operation
+  unfolding ordinary
+  in-range i lo hi t p q = sym (ranged i operation lo hi rules (nothing v n) t p q)
+
+  pub past-all : (lo : ℕ) → below lo rules ≡ true → lo ≤ operation → nothing v n ≡ ordinary v n x y z operation
+  unfolding ordinary
+  past-all lo t p = sym (beyond operation lo rules (nothing v n) t p)

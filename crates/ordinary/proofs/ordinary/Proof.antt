@@ -1,0 +1,169 @@
+-- `ordinary::ordinary` meets its contract. Assumes nothing.
+use mathlib.Core.Path.{_≡_, refl, sym, ap, _∙_}
+use native.Mathlib.Omega.{arith}
+use Rattle.ordinary.proofs.OrdinaryLaws.{in-range, past-all}
+use Rattle.decode.specs.Forms.{operationOf}
+use Rattle.effect.specs.Work.{context}
+use borrow.Author.Needs.{needs}
+use Rattle.ordinary.proofs.ordinary.Statement.{statement}
+use Rattle.ordinary.proofs.ordinary.Tie as tie
+use Rattle.ordinary.proofs.ordinary.Reads as reads
+use Rattle.ordinary.proofs.ordinary.Lts as lts
+use Rattle.effect.proofs.shapes.nothing.Reads as nothing-reads
+use Rattle.execute_floats.proofs.float_operation.Reads as float-operation-reads
+use Rattle.execute_integers.proofs.integer_operation.Reads as integer-operation-reads
+use Rattle.execute_integers.proofs.logical_operation.Reads as logical-operation-reads
+use Rattle.execute_words.proofs.bits.bit_operation.Reads as bit-operation-reads
+use Rattle.execute_words.proofs.jumps.jump_operation.Reads as jump-operation-reads
+use Rattle.execute_words.proofs.loads.load_operation.Reads as load-operation-reads
+use Rattle.execute_words.proofs.shifts.shift_operation.Reads as shift-operation-reads
+use Rattle.execute_words.proofs.stores.store_operation.Reads as store-operation-reads
+
+bit-operation-requires : tie.Need-bit-operation-requires
+bit-operation-requires c κs = search needs
+
+shift-operation-requires : tie.Need-shift-operation-requires
+shift-operation-requires c κs = search needs
+
+jump-operation-requires : tie.Need-jump-operation-requires
+jump-operation-requires c κs = search needs
+
+load-operation-requires : tie.Need-load-operation-requires
+load-operation-requires c κs = search needs
+
+store-operation-requires : tie.Need-store-operation-requires
+store-operation-requires c κs = search needs
+
+integer-operation-requires : tie.Need-integer-operation-requires
+integer-operation-requires c κs = search needs
+
+float-operation-requires : tie.Need-float-operation-requires
+float-operation-requires c κs = search needs
+
+integer-operation-requires-2 : tie.Need-integer-operation-requires-2
+integer-operation-requires-2 c κs = search needs
+
+float-operation-requires-2 : tie.Need-float-operation-requires-2
+float-operation-requires-2 c κs = search needs
+
+integer-operation-requires-3 : tie.Need-integer-operation-requires-3
+integer-operation-requires-3 c κs = search needs
+
+float-operation-requires-3 : tie.Need-float-operation-requires-3
+float-operation-requires-3 c κs = search needs
+
+integer-operation-requires-4 : tie.Need-integer-operation-requires-4
+integer-operation-requires-4 c κs = search needs
+
+float-operation-requires-4 : tie.Need-float-operation-requires-4
+float-operation-requires-4 c κs = search needs
+
+logical-operation-requires : tie.Need-logical-operation-requires
+logical-operation-requires c κs = search needs
+
+float-operation-requires-5 : tie.Need-float-operation-requires-5
+float-operation-requires-5 c κs = search needs
+
+logical-operation-requires-2 : tie.Need-logical-operation-requires-2
+logical-operation-requires-2 c κs = search needs
+
+float-operation-requires-6 : tie.Need-float-operation-requires-6
+float-operation-requires-6 c κs = search needs
+
+nothing-requires : tie.Need-nothing-requires
+nothing-requires c κs = search needs
+
+returns : tie.Need-returns
+returns c = c .bit-operation .ensures ∙ in-range (context (c .before .before .before .before .args .regs .now) (c .before .before .before .before .args .ic) (c .before .before .before .before .args .sw) (c .before .before .before .before .args .pi)) (c .before .before .before .before .args .n) (c .before .before .before .before .args .x) (c .before .before .before .before .args .y) (c .before .before .before .before .args .z) (operationOf (c .before .before .before .before .args .n .form)) 0 0 10 refl (omega arith) (omega arith)
+
+returns-2 : tie.Need-returns-2
+returns-2 c = c .shift-operation .ensures ∙ in-range (context (c .before .before .before .before .before .args .regs .now) (c .before .before .before .before .before .args .ic) (c .before .before .before .before .before .args .sw) (c .before .before .before .before .before .args .pi)) (c .before .before .before .before .before .args .n) (c .before .before .before .before .before .args .x) (c .before .before .before .before .before .args .y) (c .before .before .before .before .before .args .z) (operationOf (c .before .before .before .before .before .args .n .form)) 1 10 24 refl (omega arith) (omega arith)
+
+returns-3 : tie.Need-returns-3
+returns-3 c = c .jump-operation .ensures ∙ in-range (context (c .before .before .before .before .before .before .args .regs .now) (c .before .before .before .before .before .before .args .ic) (c .before .before .before .before .before .before .args .sw) (c .before .before .before .before .before .before .args .pi)) (c .before .before .before .before .before .before .args .n) (c .before .before .before .before .before .before .args .x) (c .before .before .before .before .before .before .args .y) (c .before .before .before .before .before .before .args .z) (operationOf (c .before .before .before .before .before .before .args .n .form)) 2 24 38 refl (omega arith) (omega arith)
+
+returns-4 : tie.Need-returns-4
+returns-4 c = c .load-operation .ensures ∙ in-range (context (c .before .before .before .before .before .before .before .args .regs .now) (c .before .before .before .before .before .before .before .args .ic) (c .before .before .before .before .before .before .before .args .sw) (c .before .before .before .before .before .before .before .args .pi)) (c .before .before .before .before .before .before .before .args .n) (c .before .before .before .before .before .before .before .args .x) (c .before .before .before .before .before .before .before .args .y) (c .before .before .before .before .before .before .before .args .z) (operationOf (c .before .before .before .before .before .before .before .args .n .form)) 3 38 45 refl (omega arith) (omega arith)
+
+returns-5 : tie.Need-returns-5
+returns-5 c = c .store-operation .ensures ∙ in-range (context (c .before .before .before .before .before .before .before .before .args .regs .now) (c .before .before .before .before .before .before .before .before .args .ic) (c .before .before .before .before .before .before .before .before .args .sw) (c .before .before .before .before .before .before .before .before .args .pi)) (c .before .before .before .before .before .before .before .before .args .n) (c .before .before .before .before .before .before .before .before .args .x) (c .before .before .before .before .before .before .before .before .args .y) (c .before .before .before .before .before .before .before .before .args .z) (operationOf (c .before .before .before .before .before .before .before .before .args .n .form)) 4 45 55 refl (omega arith) (omega arith)
+
+returns-6 : tie.Need-returns-6
+returns-6 c = c .integer-operation .ensures ∙ in-range (context (c .before .before .before .before .before .before .before .before .before .args .regs .now) (c .before .before .before .before .before .before .before .before .before .args .ic) (c .before .before .before .before .before .before .before .before .before .args .sw) (c .before .before .before .before .before .before .before .before .before .args .pi)) (c .before .before .before .before .before .before .before .before .before .args .n) (c .before .before .before .before .before .before .before .before .before .args .x) (c .before .before .before .before .before .before .before .before .before .args .y) (c .before .before .before .before .before .before .before .before .before .args .z) (operationOf (c .before .before .before .before .before .before .before .before .before .args .n .form)) 5 55 60 refl (omega arith) (omega arith)
+
+returns-7 : tie.Need-returns-7
+returns-7 c = c .float-operation .ensures ∙ in-range (context (c .before .before .before .before .before .before .before .before .before .before .args .regs .now) (c .before .before .before .before .before .before .before .before .before .before .args .ic) (c .before .before .before .before .before .before .before .before .before .before .args .sw) (c .before .before .before .before .before .before .before .before .before .before .args .pi)) (c .before .before .before .before .before .before .before .before .before .before .args .n) (c .before .before .before .before .before .before .before .before .before .before .args .x) (c .before .before .before .before .before .before .before .before .before .before .args .y) (c .before .before .before .before .before .before .before .before .before .before .args .z) (operationOf (c .before .before .before .before .before .before .before .before .before .before .args .n .form)) 6 60 63 refl (omega arith) (omega arith)
+
+returns-8 : tie.Need-returns-8
+returns-8 c = c .integer-operation2 .ensures ∙ in-range (context (c .before .before .before .before .before .before .before .before .before .before .before .args .regs .now) (c .before .before .before .before .before .before .before .before .before .before .before .args .ic) (c .before .before .before .before .before .before .before .before .before .before .before .args .sw) (c .before .before .before .before .before .before .before .before .before .before .before .args .pi)) (c .before .before .before .before .before .before .before .before .before .before .before .args .n) (c .before .before .before .before .before .before .before .before .before .before .before .args .x) (c .before .before .before .before .before .before .before .before .before .before .before .args .y) (c .before .before .before .before .before .before .before .before .before .before .before .args .z) (operationOf (c .before .before .before .before .before .before .before .before .before .before .before .args .n .form)) 7 63 68 refl (omega arith) (omega arith)
+
+returns-9 : tie.Need-returns-9
+returns-9 c = c .float-operation2 .ensures ∙ in-range (context (c .before .before .before .before .before .before .before .before .before .before .before .args .regs .now) (c .before .before .before .before .before .before .before .before .before .before .before .args .ic) (c .before .before .before .before .before .before .before .before .before .before .before .args .sw) (c .before .before .before .before .before .before .before .before .before .before .before .args .pi)) (c .before .before .before .before .before .before .before .before .before .before .before .args .n) (c .before .before .before .before .before .before .before .before .before .before .before .args .x) (c .before .before .before .before .before .before .before .before .before .before .before .args .y) (c .before .before .before .before .before .before .before .before .before .before .before .args .z) (operationOf (c .before .before .before .before .before .before .before .before .before .before .before .args .n .form)) 8 68 71 refl (omega arith) (omega arith)
+
+returns-10 : tie.Need-returns-10
+returns-10 c = c .integer-operation3 .ensures ∙ in-range (context (c .before .before .before .before .args .regs .now) (c .before .before .before .before .args .ic) (c .before .before .before .before .args .sw) (c .before .before .before .before .args .pi)) (c .before .before .before .before .args .n) (c .before .before .before .before .args .x) (c .before .before .before .before .args .y) (c .before .before .before .before .args .z) (operationOf (c .before .before .before .before .args .n .form)) 9 71 74 refl (omega arith) (omega arith)
+
+returns-11 : tie.Need-returns-11
+returns-11 c = c .float-operation3 .ensures ∙ in-range (context (c .before .before .before .before .before .args .regs .now) (c .before .before .before .before .before .args .ic) (c .before .before .before .before .before .args .sw) (c .before .before .before .before .before .args .pi)) (c .before .before .before .before .before .args .n) (c .before .before .before .before .before .args .x) (c .before .before .before .before .before .args .y) (c .before .before .before .before .before .args .z) (operationOf (c .before .before .before .before .before .args .n .form)) 10 74 76 refl (omega arith) (omega arith)
+
+returns-12 : tie.Need-returns-12
+returns-12 c = c .integer-operation4 .ensures ∙ in-range (context (c .before .before .before .before .before .before .args .regs .now) (c .before .before .before .before .before .before .args .ic) (c .before .before .before .before .before .before .args .sw) (c .before .before .before .before .before .before .args .pi)) (c .before .before .before .before .before .before .args .n) (c .before .before .before .before .before .before .args .x) (c .before .before .before .before .before .before .args .y) (c .before .before .before .before .before .before .args .z) (operationOf (c .before .before .before .before .before .before .args .n .form)) 11 76 79 refl (omega arith) (omega arith)
+
+returns-13 : tie.Need-returns-13
+returns-13 c = c .float-operation4 .ensures ∙ in-range (context (c .before .before .before .before .before .before .before .args .regs .now) (c .before .before .before .before .before .before .before .args .ic) (c .before .before .before .before .before .before .before .args .sw) (c .before .before .before .before .before .before .before .args .pi)) (c .before .before .before .before .before .before .before .args .n) (c .before .before .before .before .before .before .before .args .x) (c .before .before .before .before .before .before .before .args .y) (c .before .before .before .before .before .before .before .args .z) (operationOf (c .before .before .before .before .before .before .before .args .n .form)) 12 79 81 refl (omega arith) (omega arith)
+
+returns-14 : tie.Need-returns-14
+returns-14 c = c .logical-operation .ensures ∙ in-range (context (c .before .before .before .before .before .before .before .before .args .regs .now) (c .before .before .before .before .before .before .before .before .args .ic) (c .before .before .before .before .before .before .before .before .args .sw) (c .before .before .before .before .before .before .before .before .args .pi)) (c .before .before .before .before .before .before .before .before .args .n) (c .before .before .before .before .before .before .before .before .args .x) (c .before .before .before .before .before .before .before .before .args .y) (c .before .before .before .before .before .before .before .before .args .z) (operationOf (c .before .before .before .before .before .before .before .before .args .n .form)) 13 81 85 refl (omega arith) (omega arith)
+
+returns-15 : tie.Need-returns-15
+returns-15 c = c .float-operation5 .ensures ∙ in-range (context (c .before .before .before .before .before .before .before .before .before .args .regs .now) (c .before .before .before .before .before .before .before .before .before .args .ic) (c .before .before .before .before .before .before .before .before .before .args .sw) (c .before .before .before .before .before .before .before .before .before .args .pi)) (c .before .before .before .before .before .before .before .before .before .args .n) (c .before .before .before .before .before .before .before .before .before .args .x) (c .before .before .before .before .before .before .before .before .before .args .y) (c .before .before .before .before .before .before .before .before .before .args .z) (operationOf (c .before .before .before .before .before .before .before .before .before .args .n .form)) 14 85 89 refl (omega arith) (omega arith)
+
+returns-16 : tie.Need-returns-16
+returns-16 c = c .logical-operation2 .ensures ∙ in-range (context (c .before .before .before .before .before .before .before .before .before .before .args .regs .now) (c .before .before .before .before .before .before .before .before .before .before .args .ic) (c .before .before .before .before .before .before .before .before .before .before .args .sw) (c .before .before .before .before .before .before .before .before .before .before .args .pi)) (c .before .before .before .before .before .before .before .before .before .before .args .n) (c .before .before .before .before .before .before .before .before .before .before .args .x) (c .before .before .before .before .before .before .before .before .before .before .args .y) (c .before .before .before .before .before .before .before .before .before .before .args .z) (operationOf (c .before .before .before .before .before .before .before .before .before .before .args .n .form)) 15 89 94 refl (omega arith) (omega arith)
+
+returns-17 : tie.Need-returns-17
+returns-17 c = c .float-operation6 .ensures ∙ in-range (context (c .before .before .before .before .before .before .before .before .before .before .before .args .regs .now) (c .before .before .before .before .before .before .before .before .before .before .before .args .ic) (c .before .before .before .before .before .before .before .before .before .before .before .args .sw) (c .before .before .before .before .before .before .before .before .before .before .before .args .pi)) (c .before .before .before .before .before .before .before .before .before .before .before .args .n) (c .before .before .before .before .before .before .before .before .before .before .before .args .x) (c .before .before .before .before .before .before .before .before .before .before .before .args .y) (c .before .before .before .before .before .before .before .before .before .before .before .args .z) (operationOf (c .before .before .before .before .before .before .before .before .before .before .before .args .n .form)) 16 94 96 refl (omega arith) (omega arith)
+
+returns-18 : tie.Need-returns-18
+returns-18 c = c .nothing .ensures (c .before .before .before .before .before .before .before .before .before .before .before .args .regs .now) ∙ past-all (context (c .before .before .before .before .before .before .before .before .before .before .before .args .regs .now) (c .before .before .before .before .before .before .before .before .before .before .before .args .ic) (c .before .before .before .before .before .before .before .before .before .before .before .args .sw) (c .before .before .before .before .before .before .before .before .before .before .before .args .pi)) (c .before .before .before .before .before .before .before .before .before .before .before .args .n) (c .before .before .before .before .before .before .before .before .before .before .before .args .x) (c .before .before .before .before .before .before .before .before .before .before .before .args .y) (c .before .before .before .before .before .before .before .before .before .before .before .args .z) (operationOf (c .before .before .before .before .before .before .before .before .before .before .before .args .n .form)) 96 refl (omega arith)
+
+pub ordinary-spec : {M : Type 1} → statement M
+ordinary-spec =
+    tie.close
+    (tie.spec
+    bit-operation-requires
+    shift-operation-requires
+    jump-operation-requires
+    load-operation-requires
+    store-operation-requires
+    integer-operation-requires
+    float-operation-requires
+    integer-operation-requires-2
+    float-operation-requires-2
+    integer-operation-requires-3
+    float-operation-requires-3
+    integer-operation-requires-4
+    float-operation-requires-4
+    logical-operation-requires
+    float-operation-requires-5
+    logical-operation-requires-2
+    float-operation-requires-6
+    nothing-requires
+    returns
+    returns-2
+    returns-3
+    returns-4
+    returns-5
+    returns-6
+    returns-7
+    returns-8
+    returns-9
+    returns-10
+    returns-11
+    returns-12
+    returns-13
+    returns-14
+    returns-15
+    returns-16
+    returns-17
+    returns-18)

@@ -1,0 +1,2 @@
+-- The definition of one store.
+pub mod Stores

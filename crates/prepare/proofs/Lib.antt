@@ -1,0 +1,2 @@
+-- The laws of instructions up to their accesses.
+pub mod PrepareLaws

@@ -1,0 +1,175 @@
+// An instruction up to its accesses (Scope, "One step", 2): fetch, decode, privilege, second word, derived address. Each stage is the
+// definition's, at the state of a core and the registers lent beside it. Callers have 512 page registers: a run asks for them.
+ghost use mathlib.Core.Path.{_≡_};
+ghost use mathlib.Core.Bool.{true, cond};
+ghost use mathlib.Core.List.{List};
+ghost use Prim.Native.Nat.{ℕ, _+_};
+ghost use lib.Dec.{eqb};
+ghost use lib.ListN.{length};
+ghost use Rattle.page.specs.Pages.{lookup};
+ghost use Rattle.page.specs.Spans.{wrapped, gotAt};
+ghost use Rattle.decode.specs.Forms.{lengthOf, modeOf};
+ghost use Rattle.decode.specs.Decode.{forms};
+ghost use Rattle.machine.specs.State.{keyOf, groupOf, joined};
+ghost use Rattle.machine.specs.Instructions.{view, permitted, readyAt, redirected, derived, granted, decoded, prepared};
+ghost use Rattle.isa.specs.Mil1750.{classOf, mil1750};
+use interrupt::fields::advance;
+use interrupt::fields::group_of;
+use interrupt::fields::key_of;
+use machine::Class;
+use machine::Core;
+use machine::Instruction;
+use machine::Prepared;
+use page::Access;
+use page::Got;
+use page::read::read_word;
+
+// The word at a logical address, by the key and the address state of SW.
+pub fn look(access: Access, sw: u16, memory: &[u16], pages: &[u16], a: u16) -> Got
+    requires { ⌜ length (now pages) ≡ 512 ⌝ }
+    ensures { λ r. ⌜ r ≡ gotAt (now (memory .entry)) (lookup access (keyOf sw) (groupOf sw) (now (pages .entry)) (length (now (memory .entry))) a) ⌝ }
+{
+    let key = key_of(sw);
+    let group = group_of(sw);
+    read_word(access, key, group, memory, pages, a)
+}
+
+// Who may run an operation: BEX (5.30) calls the executive, XIO (5.1) and LST (5.35) are privileged.
+pub fn class_of(operation: u16) -> Class
+    ensures { λ r. ⌜ r ≡ classOf operation ⌝ }
+{
+    match operation {
+        30 => Class::Executive,
+        1 => Class::Supervisor,
+        35 => Class::Supervisor,
+        _ => Class::User,
+    }
+}
+
+// Whether the key of SW may run it.
+fn permit(class: Class, sw: u16) -> bool
+    ensures { λ r. ⌜ r ≡ permitted class (keyOf sw) ⌝ }
+{
+    match class {
+        Class::User => true,
+        Class::Supervisor => key_of(sw) == 0,
+        Class::Executive => true,
+    }
+}
+
+// The instruction is ready.
+fn ready(form: u16, first: u16, second: u16, address: u16) -> Prepared
+    ensures { λ r. ⌜ r ≡ readyAt form first second address ⌝ }
+{
+    Prepared::Ready(Instruction {
+        form,
+        first,
+        second,
+        address,
+    })
+}
+
+// The word read at an indirect address is the derived address.
+fn redirect(core: Core, form: u16, w: u16, x: u16, got: Got) -> Prepared
+    ensures { λ r. ⌜ ((regs : List ℕ) → r ≡ redirected (joined core regs) form w x got) ⌝ }
+{
+    match got {
+        Got::Word(a) => ready(form, w, x, a),
+        Got::Missed(b) => Prepared::Denied(b, advance(core.ic, form / 4096)),
+    }
+}
+
+// The derived address.
+fn derive(
+    core: Core,
+    regs: &[u16; 16],
+    memory: &[u16],
+    pages: &[u16],
+    form: u16,
+    w: u16,
+    x: u16,
+) -> Prepared
+    requires { ⌜ length (now pages) ≡ 512 ⌝ }
+    ensures { λ r. ⌜ r ≡ derived mil1750 (joined core (now (regs .entry)))
+        (view (joined core (now (regs .entry))) (now (memory .entry)) (now (pages .entry))) form w x (eqb (modeOf form) 7) ⌝ }
+{
+    let mode = form / 256 % 16;
+    let a = access::addressing::derive(mode, regs, core.ic, w, x);
+    if mode == 7 {
+        let got = look(Access::Read, core.sw, memory, pages, a);
+        return redirect(core, form, w, x, got);
+    }
+    ready(form, w, x, a)
+}
+
+// The second word, and 0 where there is none.
+fn second_word(ic: u16, sw: u16, memory: &[u16], pages: &[u16], form: u16) -> Got
+    requires { ⌜ length (now pages) ≡ 512 ⌝ }
+    ensures { λ r. ⌜ r ≡ cond (eqb (lengthOf form) 2)
+        (gotAt (now (memory .entry)) (lookup Access.Fetch (keyOf sw) (groupOf sw) (now (pages .entry)) (length (now (memory .entry))) (wrapped (ic + 1))))
+        (Got.Word 0) ⌝ }
+{
+    if form / 4096 == 2 {
+        let at = advance(ic, 1);
+        return look(Access::Fetch, sw, memory, pages, at);
+    }
+    Got::Word(0)
+}
+
+// A permitted instruction, from its second word on.
+fn extend(
+    core: Core,
+    regs: &[u16; 16],
+    memory: &[u16],
+    pages: &[u16],
+    form: u16,
+    w: u16,
+) -> Prepared
+    requires { ⌜ length (now pages) ≡ 512 ⌝ }
+    ensures { λ r. ⌜ r ≡ granted mil1750 (joined core (now (regs .entry)))
+        (view (joined core (now (regs .entry))) (now (memory .entry)) (now (pages .entry))) form w true (eqb (lengthOf form) 2) ⌝ }
+{
+    let second = second_word(core.ic, core.sw, memory, pages, form);
+    match second {
+        Got::Word(x) => derive(core, regs, memory, pages, form, w, x),
+        Got::Missed(b) => Prepared::Denied(b, advance(core.ic, 2)),
+    }
+}
+
+// A first word of this form, from its legality on.
+fn admit(core: Core, regs: &[u16; 16], memory: &[u16], pages: &[u16], form: u16, w: u16) -> Prepared
+    requires { ⌜ length (now pages) ≡ 512 ⌝ }
+    ensures { λ r. ⌜ r ≡ decoded mil1750 (joined core (now (regs .entry)))
+        (view (joined core (now (regs .entry))) (now (memory .entry)) (now (pages .entry))) form w (eqb form 0) ⌝ }
+{
+    if form == 0 {
+        return Prepared::Denied(0x0040, advance(core.ic, 1));
+    }
+    let class = class_of(form % 256);
+    if permit(class, core.sw) {
+        return extend(core, regs, memory, pages, form, w);
+    }
+    Prepared::Denied(0x0020, advance(core.ic, 1))
+}
+
+// The instruction at IC, ready for its accesses, or its refusal. The table is the decoder's, made once a run.
+pub fn prepare(
+    core: Core,
+    regs: &[u16; 16],
+    memory: &[u16],
+    pages: &[u16],
+    table: &[u16; 256],
+) -> Prepared
+    requires { ⌜ (length (now pages) ≡ 512) × (now table ≡ forms) ⌝ }
+    ensures { λ r. ⌜ r ≡ prepared mil1750 (joined core (now (regs .entry)))
+        (view (joined core (now (regs .entry))) (now (memory .entry)) (now (pages .entry))) ⌝ }
+{
+    let first = look(Access::Fetch, core.sw, memory, pages, core.ic);
+    match first {
+        Got::Word(w) => {
+            let form = decode::decode_with(table, w);
+            admit(core, regs, memory, pages, form, w)
+        }
+        Got::Missed(b) => Prepared::Denied(b, advance(core.ic, 1)),
+    }
+}

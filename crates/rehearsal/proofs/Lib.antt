@@ -1,0 +1,3 @@
+-- The laws of what the program prints, and known inputs.
+pub mod PrintedLaws
+pub mod Rows

@@ -1,0 +1,28 @@
+-- The Scope's example, computed: what the program prints for its sixteen bytes, and for no byte at all. Assumes nothing.
+use Prim.Native.Nat.{ℕ}
+use mathlib.Core.List.{List, [], _∷_}
+use mathlib.Core.Path.{_≡_, refl}
+use Rattle.machine.proofs.Opened.{machinery}
+use Rattle.isa.proofs.OpenWords.{words}
+use Rattle.isa.proofs.OpenFloats.{floats}
+use Rattle.isa.proofs.OpenDecoder.{decoder}
+use Rattle.isa.proofs.OpenInstructions.{instructions}
+use Rattle.image.specs.Reset.{resetState, cycle, resetPages, resetMachine}
+use Rattle.image.specs.Image as image
+use Rattle.report.specs.Report.{digit, hex, leading, decimal, stepsLine, named, controlLine, registers, registersLine, reportOf, refusalOf}
+use Rattle.report.proofs.Rows.{exampleLines}
+use Rattle.rehearsal.specs.Printed.{unless, lengthNumber, loadNumber, started, ranText, printed}
+
+-- one entry: the words 823F, 7900 from word 0 of memory on
+abbrev example : List ℕ
+example = 0 ∷ 1 ∷ 0 ∷ 1 ∷ 0 ∷ 0 ∷ 0 ∷ 0 ∷ 0 ∷ 0 ∷ 0 ∷ 2 ∷ 130 ∷ 63 ∷ 121 ∷ 0 ∷ []
+
+-- the Scope's four lines
+example-lines : printed example ≡ exampleLines
+unfolding words floats decoder instructions machinery resetState cycle resetPages resetMachine image.wordAt image.longAt image.countOf image.entryAt image.wordsBefore image.tableEnd image.bodyAt image.wordsFrom image.asked image.andThen image.targetSize image.endOf image.share image.sharesEarlier image.entryAnswer image.entriesAnswer image.imageAnswer image.admission image.controlOf image.withControl image.withWords image.withBody image.withBodies digit hex leading decimal stepsLine named controlLine registers registersLine reportOf refusalOf unless lengthNumber loadNumber started ranText printed
+example-lines = refl
+
+-- "refused 6"
+nothing-refused : printed [] ≡ 114 ∷ 101 ∷ 102 ∷ 117 ∷ 115 ∷ 101 ∷ 100 ∷ 32 ∷ 54 ∷ 10 ∷ []
+unfolding machinery resetState cycle resetPages resetMachine image.wordAt image.longAt image.countOf image.entryAt image.wordsBefore image.tableEnd image.bodyAt image.wordsFrom image.asked image.andThen image.targetSize image.endOf image.share image.sharesEarlier image.entryAnswer image.entriesAnswer image.imageAnswer image.admission image.controlOf image.withControl image.withWords image.withBody image.withBodies digit hex leading decimal stepsLine named controlLine registers registersLine reportOf refusalOf unless lengthNumber loadNumber started ranText printed
+nothing-refused = refl

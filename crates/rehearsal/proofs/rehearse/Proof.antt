@@ -1,0 +1,59 @@
+-- `rehearsal::rehearse` meets its contract. Assumes nothing.
+use mathlib.Core.Path.{_≡_, refl, sym, ap, _∙_}
+use native.Mathlib.Omega.{arith}
+use Rattle.rehearsal.proofs.PrintedLaws.{too-long, refused, accepted, number-is, machine-is}
+use borrow.Author.Needs.{needs}
+use Rattle.rehearsal.proofs.rehearse.Statement.{statement}
+use Rattle.rehearsal.proofs.rehearse.Tie as tie
+use Rattle.rehearsal.proofs.rehearse.Reads as reads
+use Rattle.rehearsal.proofs.rehearse.Lts as lts
+use Rattle.image.proofs.door.number.Reads as number-reads
+use Rattle.image.proofs.load.load.Reads as load-reads
+use Rattle.image.proofs.reset.reset.Reads as reset-reads
+use Rattle.rehearsal.proofs.run_and_report.Reads as run-and-report-reads
+use Rattle.report.proofs.refusal.Reads as refusal-reads
+
+refusal-requires : tie.Need-refusal-requires
+refusal-requires c κs = search needs
+
+returns : tie.Need-returns
+returns c = rw (too-long _ (c .before .before .if1 .taken)) (c .refusal .ensures)
+
+reset-requires : tie.Need-reset-requires
+reset-requires c κs = search needs
+
+load-requires : tie.Need-load-requires
+load-requires c κs = search needs
+
+number-requires : tie.Need-number-requires
+number-requires c κs = search needs
+
+cast-refused : tie.Need-cast-refused
+cast-refused c = search needs
+
+refusal-requires-2 : tie.Need-refusal-requires-2
+refusal-requires-2 c κs = search needs
+
+returns-2 : tie.Need-returns-2
+returns-2 c = rw (refused _ _ (c .before .before .before .before .before .before .before .before .before .before .before .before .if1 .left) (number-is _ _ (omega (arith, c .before .before .before .before .before .before .before .load-arg .given)) (omega (arith, c .before .before .before .before .before .before .load-arg2 .given)) (omega (arith, c .before .before .before .before .before .load-arg3 .given)) _ _ (c .before .before .before .number .ensures) (c .before .before .before .before .load .ensures .answer-is)) (c .before .before .if2 .taken)) (c .refusal2 .ensures)
+
+run-and-report-requires : tie.Need-run-and-report-requires
+run-and-report-requires c κs = search needs
+
+returns-3 : tie.Need-returns-3
+returns-3 c = rw (accepted _ _ (c .before .before .before .before .before .before .before .before .before .before .before .before .before .before .before .before .if1 .left) (number-is _ _ (omega (arith, c .before .before .before .before .before .before .before .before .before .before .before .load-arg .given)) (omega (arith, c .before .before .before .before .before .before .before .before .before .before .load-arg2 .given)) (omega (arith, c .before .before .before .before .before .before .before .before .before .load-arg3 .given)) _ _ (c .before .before .before .before .before .before .before .number .ensures) (c .before .before .before .before .before .before .before .before .load .ensures .answer-is)) (c .before .before .before .before .before .before .if2 .left), ← machine-is _ _ (omega (arith, c .before .before .before .before .before .before .before .before .before .before .before .load-arg .given)) (omega (arith, c .before .before .before .before .before .before .before .before .before .before .load-arg2 .given)) (omega (arith, c .before .before .before .before .before .before .before .before .before .load-arg3 .given)) _ _ _ _ _ _ (c .before .before .before .before .before .before .before .number .ensures) (c .before .before .before .before .before .before .if2 .left) (c .before .before .before .before .before .before .before .before .load .ensures)) (c .run-and-report .ensures)
+
+pub rehearse-spec : {M : Type 1} → statement M
+rehearse-spec =
+    tie.close
+    (tie.spec
+    refusal-requires
+    returns
+    reset-requires
+    load-requires
+    number-requires
+    cast-refused
+    refusal-requires-2
+    returns-2
+    run-and-report-requires
+    returns-3)

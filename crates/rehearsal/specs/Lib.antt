@@ -1,0 +1,2 @@
+-- The definition of what the program prints.
+pub mod Printed

@@ -1,0 +1,51 @@
+-- What the program prints for an input (Scope, "The program" and "Questions at the door"). An input b is the list of its bytes. Assumes nothing.
+use Prim.Native.Nat.{ℕ}
+use mathlib.Core.Bool.{cond}
+use mathlib.Core.List.{List}
+use lib.Dec.{eqb, leb}
+use lib.ListN.{length}
+use Rattle.machine.specs.Machine.{Machine}
+use Rattle.machine.specs.Runs.{numberOf, answerOf, left}
+use Rattle.isa.specs.Mil1750.{mil1750}
+use Rattle.image.specs.Reset.{resetMachine}
+use Rattle.image.specs.Image.{countOf, withBodies, admission}
+use Rattle.image.specs.Image as image
+use Rattle.report.specs.Report.{reportOf, refusalOf}
+
+-- the program's sizes: words of memory, page registers, ports
+abbrev pub memorySize : ℕ
+memorySize = 16384
+
+abbrev pub pagesSize : ℕ
+pagesSize = 512
+
+abbrev pub portsSize : ℕ
+portsSize = 1024
+
+-- its steps
+abbrev pub budget : ℕ
+budget = 1000
+
+-- on to the rest, or out with the number of a refusal
+unfoldable pub unless : ℕ → List ℕ → List ℕ
+unless number rest = cond (eqb number 0) rest (refusalOf number)
+
+-- is the input at most 32,768 bytes? No: 13
+unfoldable pub lengthNumber : List ℕ → ℕ
+lengthNumber b = cond (leb (length b) 32768) 0 13
+
+-- the loader's questions
+unfoldable pub loadNumber : List ℕ → ℕ
+loadNumber b = image.numberOf (admission b memorySize pagesSize portsSize)
+
+-- the machine that an accepted image makes: reset, then the bodies
+unfoldable pub started : List ℕ → Machine
+started b = withBodies b (countOf b) 0 (resetMachine memorySize pagesSize portsSize)
+
+-- the text after a run on the machine x
+unfoldable pub ranText : Machine → List ℕ
+ranText x = unless (numberOf (answerOf x budget)) (reportOf budget (left mil1750 x budget .state))
+
+-- the program: the length, the loader's questions, the run
+unfoldable pub printed : List ℕ → List ℕ
+printed b = unless (lengthNumber b) (unless (loadNumber b) (ranText (started b)))

@@ -1,0 +1,49 @@
+// What the program does between its input and its output: an image is loaded and run, and the text is made.
+ghost use Rattle.report.specs.Report.{Text};
+ghost use Rattle.rehearsal.specs.Printed.{printed, ranText};
+ghost use Rattle.machine.specs.Machine.{machine};
+use machine::State;
+
+// A run of 1,000 steps, and its report.
+fn run_and_report(
+    s: State,
+    memory: &mut [u16],
+    pages: &mut [u16],
+    ports: &mut [u16],
+    out: &mut [u8; 256],
+) -> usize
+    ensures { λ r. ⌜ Text (ranText (machine s (now (memory .entry)) (now (pages .entry)) (now (ports .entry)))) (now (out .exit)) r ⌝ }
+{
+    let ran = cpu::run::run(s, memory, pages, ports, 1000);
+    let answer = ran.answer;
+    let refused = cpu::run::number(answer) as u32;
+    if refused != 0 {
+        return report::refusal(refused, out);
+    }
+    let left = ran.state;
+    report::report(1000, left, out)
+}
+
+// The program's text for an input, on the memory, page registers and ports that it holds, whatever they contain.
+pub fn rehearse(
+    input: &[u8],
+    memory: &mut [u16; 16384],
+    pages: &mut [u16; 512],
+    ports: &mut [u16; 1024],
+    out: &mut [u8; 256],
+) -> usize
+    ensures { λ r. ⌜ Text (printed (now (input .entry))) (now (out .exit)) r ⌝ }
+{
+    if 32768 < input.len() {
+        return report::refusal(13, out);
+    }
+    let fresh = image::reset::reset(memory, pages, ports);
+    let loaded = image::load::load(fresh, input, memory, pages, ports);
+    let answer = loaded.answer;
+    let refused = image::door::number(answer) as u32;
+    if refused != 0 {
+        return report::refusal(refused, out);
+    }
+    let state = loaded.state;
+    run_and_report(state, memory, pages, ports, out)
+}

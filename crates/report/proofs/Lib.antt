@@ -1,0 +1,3 @@
+-- The laws of the program's text, and known texts.
+pub mod WroteLaws
+pub mod Rows

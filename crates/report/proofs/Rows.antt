@@ -1,0 +1,58 @@
+-- Known texts, computed: the Scope's report and refusal byte for byte, and decimal numbers. Assumes nothing.
+use Prim.Native.Nat.{ℕ}
+use mathlib.Core.Bool.{true, false}
+use mathlib.Core.List.{List, [], _∷_, _++_}
+use mathlib.Core.Path.{_≡_, refl}
+use Rattle.machine.specs.declared.State.{State}
+use Rattle.report.specs.Report.{digit, hex, leading, decimal, stepsLine, named, controlLine, registers, registersLine, reportOf, refusalOf}
+
+-- the Scope's example after its 1,000 steps: R3 = 0010, IC 0001, SW 4000 (the report shows neither marks, timers nor counter)
+abbrev example : State
+example = record { regs = 0 ∷ 0 ∷ 0 ∷ 16 ∷ 0 ∷ 0 ∷ 0 ∷ 0 ∷ 0 ∷ 0 ∷ 0 ∷ 0 ∷ 0 ∷ 0 ∷ 0 ∷ 0 ∷ []; ic = 1; sw = 16384; mk = 0; pi = 0; ft = 0; enabled = false; hold = false; ta = 1000; tb = 100; taon = true; tbon = true; count = 1000 }
+
+-- "steps 1000"
+abbrev pub line1 : List ℕ
+line1 = 115 ∷ 116 ∷ 101 ∷ 112 ∷ 115 ∷ 32 ∷ 49 ∷ 48 ∷ 48 ∷ 48 ∷ 10 ∷ []
+
+-- "ic 0001 sw 4000 mk 0000 pi 0000 ft 0000"
+abbrev pub line2 : List ℕ
+line2 = 105 ∷ 99 ∷ 32 ∷ 48 ∷ 48 ∷ 48 ∷ 49 ∷ 32 ∷ 115 ∷ 119 ∷ 32 ∷ 52 ∷ 48 ∷ 48 ∷ 48 ∷ 32 ∷ 109 ∷ 107 ∷ 32 ∷ 48 ∷ 48 ∷ 48 ∷ 48 ∷ 32 ∷ 112 ∷ 105 ∷ 32 ∷ 48 ∷ 48 ∷ 48 ∷ 48 ∷ 32 ∷ 102 ∷ 116 ∷ 32 ∷ 48 ∷ 48 ∷ 48 ∷ 48 ∷ 10 ∷ []
+
+-- "r0 0000 0000 0000 0010 0000 0000 0000 0000"
+abbrev pub line3 : List ℕ
+line3 = 114 ∷ 48 ∷ 32 ∷ 48 ∷ 48 ∷ 48 ∷ 48 ∷ 32 ∷ 48 ∷ 48 ∷ 48 ∷ 48 ∷ 32 ∷ 48 ∷ 48 ∷ 48 ∷ 48 ∷ 32 ∷ 48 ∷ 48 ∷ 49 ∷ 48 ∷ 32 ∷ 48 ∷ 48 ∷ 48 ∷ 48 ∷ 32 ∷ 48 ∷ 48 ∷ 48 ∷ 48 ∷ 32 ∷ 48 ∷ 48 ∷ 48 ∷ 48 ∷ 32 ∷ 48 ∷ 48 ∷ 48 ∷ 48 ∷ 10 ∷ []
+
+-- "r8 0000 0000 0000 0000 0000 0000 0000 0000"
+abbrev pub line4 : List ℕ
+line4 = 114 ∷ 56 ∷ 32 ∷ 48 ∷ 48 ∷ 48 ∷ 48 ∷ 32 ∷ 48 ∷ 48 ∷ 48 ∷ 48 ∷ 32 ∷ 48 ∷ 48 ∷ 48 ∷ 48 ∷ 32 ∷ 48 ∷ 48 ∷ 48 ∷ 48 ∷ 32 ∷ 48 ∷ 48 ∷ 48 ∷ 48 ∷ 32 ∷ 48 ∷ 48 ∷ 48 ∷ 48 ∷ 32 ∷ 48 ∷ 48 ∷ 48 ∷ 48 ∷ 32 ∷ 48 ∷ 48 ∷ 48 ∷ 48 ∷ 10 ∷ []
+
+-- the Scope's four lines
+abbrev pub exampleLines : List ℕ
+exampleLines = line1 ++ (line2 ++ (line3 ++ line4))
+
+example-lines : reportOf 1000 example ≡ exampleLines
+unfolding digit hex leading decimal stepsLine named controlLine registers registersLine reportOf
+example-lines = refl
+
+-- "refused 13"
+refused-13 : refusalOf 13 ≡ 114 ∷ 101 ∷ 102 ∷ 117 ∷ 115 ∷ 101 ∷ 100 ∷ 32 ∷ 49 ∷ 51 ∷ 10 ∷ []
+unfolding leading decimal refusalOf
+refused-13 = refl
+
+-- the letters of "FEDC BA98", and of "0A5F"
+letters : hex 65244 ++ (hex 47768 ++ hex 2655) ≡ 70 ∷ 69 ∷ 68 ∷ 67 ∷ 66 ∷ 65 ∷ 57 ∷ 56 ∷ 48 ∷ 65 ∷ 53 ∷ 70 ∷ []
+unfolding digit hex
+letters = refl
+
+-- the least number, one with a zero inside, and the largest of 32 bits
+decimal-0 : decimal 0 ≡ 48 ∷ []
+unfolding leading decimal
+decimal-0 = refl
+
+decimal-1005 : decimal 1005 ≡ 49 ∷ 48 ∷ 48 ∷ 53 ∷ []
+unfolding leading decimal
+decimal-1005 = refl
+
+decimal-largest : decimal 4294967295 ≡ 52 ∷ 50 ∷ 57 ∷ 52 ∷ 57 ∷ 54 ∷ 55 ∷ 50 ∷ 57 ∷ 53 ∷ []
+unfolding leading decimal
+decimal-largest = refl

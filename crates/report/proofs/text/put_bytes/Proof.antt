@@ -1,0 +1,54 @@
+-- `report::text::put_bytes` meets its contract. Assumes nothing.
+use native.Mathlib.Omega.{arith}
+use Prim.Native.Nat.{_+_, _*_, _-_, _≤_}
+use mathlib.Core.Path.{_≡_, refl, sym, ap, _∙_}
+use lib.ListN.{length, take}
+use Rattle.report.specs.Report.{Wrote}
+use Rattle.report.proofs.WroteLaws.{wrote-none, wrote-more, wrote-all}
+use borrow.Author.Needs.{needs}
+use Rattle.report.proofs.text.put_bytes.Statement.{statement}
+use Rattle.report.proofs.text.put_bytes.Tie as tie
+use Rattle.report.proofs.text.put_bytes.Reads as reads
+use Rattle.report.proofs.text.put_bytes.Lts as lts
+use Rattle.report.proofs.text.put.Reads as put-reads
+
+abbrev Inv-loop : tie.InvT-loop
+Inv-loop out₀ at bytes to₀ n₀ out to n = (n ≤ length bytes) × (Wrote out₀ at (take n bytes) out to) × (to ≡ at + n)
+
+abbrev μ-loop : tie.MeasureT-loop
+μ-loop out₀ at bytes to₀ n₀ out to n = length bytes - n
+
+loop-holds : tie.Need-loop-holds Inv-loop μ-loop
+loop-holds c = (omega arith, wrote-none _ _, omega arith)
+
+shared-slice-read-put : tie.Need-shared-slice-read-put Inv-loop μ-loop
+shared-slice-read-put c = omega arith
+
+put-requires : tie.Need-put-requires Inv-loop μ-loop
+put-requires c κs = omega arith
+
+add-n : tie.Need-add-n Inv-loop μ-loop
+add-n c = omega arith
+
+loop-less : tie.Need-loop-less Inv-loop μ-loop
+loop-less c = omega arith
+
+loop-again : tie.Need-loop-again Inv-loop μ-loop
+loop-again c = (omega arith, wrote-more _ _ (c .before .before .before .loop-test .taken) (c .before .before .before .before .loop .inv .1) (c .put .ensures .0), omega arith)
+
+returns : tie.Need-returns Inv-loop μ-loop
+returns c = (wrote-all _ (c .before .loop .n) (omega arith) (c .before .loop .inv .1), omega arith)
+
+pub put-bytes-spec : {M : Type 1} → statement M
+put-bytes-spec =
+    tie.close
+    (tie.spec
+    Inv-loop
+    μ-loop
+    loop-holds
+    shared-slice-read-put
+    put-requires
+    add-n
+    loop-less
+    loop-again
+    returns)

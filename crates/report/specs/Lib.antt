@@ -1,0 +1,2 @@
+-- The definitions of the program's text.
+pub mod Report

@@ -1,0 +1,100 @@
+// The program's text (Scope, "The program"): the report of a run, and a refusal, in a buffer of 256 bytes.
+ghost use mathlib.Core.Path.{_≡_};
+ghost use Prim.Native.Nat.{_+_, _≤_};
+ghost use mathlib.Core.List.{_∷_};
+ghost use Rattle.report.specs.Report.{blank, hex, stepsLine, named, controlLine, registers, registersLine, reportOf, refusalOf, Wrote, Text};
+
+pub mod text;
+
+use crate::text::digit;
+use crate::text::put;
+use crate::text::put_bytes;
+use crate::text::put_decimal;
+use crate::text::put_hex;
+use machine::State;
+
+// The line of the steps: at most 17 bytes.
+fn put_steps(out: &mut [u8; 256], at: usize, steps: u32) -> usize
+    requires { ⌜ at + 17 ≤ 256 ⌝ }
+    ensures { λ r. ⌜ (Wrote (now (out .entry)) at (stepsLine steps) (now (out .exit)) r) × (r ≤ at + 17) ⌝ }
+{
+    let at = put_bytes(out, at, b"steps ");
+    let at = put_decimal(out, at, steps);
+    put(out, at, b'\n')
+}
+
+// A register after its name: 8 bytes.
+fn put_named(out: &mut [u8; 256], at: usize, name: &[u8; 3], word: u16, end: u8) -> usize
+    requires { ⌜ at + 8 ≤ 256 ⌝ }
+    ensures { λ r. ⌜ (Wrote (now (out .entry)) at (named (now (name .entry)) word end) (now (out .exit)) r) × (r ≡ at + 8) ⌝ }
+{
+    let at = put_bytes(out, at, name);
+    let at = put_hex(out, at, word);
+    put(out, at, end)
+}
+
+// The line of the five registers by name: 40 bytes.
+fn put_control(out: &mut [u8; 256], at: usize, s: State) -> usize
+    requires { ⌜ at + 40 ≤ 256 ⌝ }
+    ensures { λ r. ⌜ (Wrote (now (out .entry)) at (controlLine s) (now (out .exit)) r) × (r ≡ at + 40) ⌝ }
+{
+    let at = put_named(out, at, b"ic ", s.ic, b' ');
+    let at = put_named(out, at, b"sw ", s.sw, b' ');
+    let at = put_named(out, at, b"mk ", s.mk, b' ');
+    let at = put_named(out, at, b"pi ", s.pi, b' ');
+    put_named(out, at, b"ft ", s.ft, b'\n')
+}
+
+// A general register after a blank: 5 bytes.
+fn put_register(out: &mut [u8; 256], at: usize, word: u16) -> usize
+    requires { ⌜ at + 5 ≤ 256 ⌝ }
+    ensures { λ r. ⌜ (Wrote (now (out .entry)) at (blank ∷ hex word) (now (out .exit)) r) × (r ≡ at + 5) ⌝ }
+{
+    let at = put(out, at, b' ');
+    put_hex(out, at, word)
+}
+
+// Eight general registers: 40 bytes.
+fn put_registers(out: &mut [u8; 256], at: usize, regs: &[u16; 16], first: usize) -> usize
+    requires { ⌜ (at + 40 ≤ 256) × (first ≤ 8) ⌝ }
+    ensures { λ r. ⌜ (Wrote (now (out .entry)) at (registers (now (regs .entry)) first 8) (now (out .exit)) r) × (r ≡ at + 40) ⌝ }
+{
+    let mut to = at;
+    let mut n: usize = 0;
+    while n < 8 {
+        to = put_register(out, to, regs[first + n]);
+        n += 1;
+    }
+    to
+}
+
+// The line of eight general registers: 43 bytes.
+fn put_line(out: &mut [u8; 256], at: usize, regs: &[u16; 16], first: usize) -> usize
+    requires { ⌜ (at + 43 ≤ 256) × (first ≤ 8) ⌝ }
+    ensures { λ r. ⌜ (Wrote (now (out .entry)) at (registersLine (now (regs .entry)) first) (now (out .exit)) r) × (r ≡ at + 43) ⌝ }
+{
+    let at = put(out, at, b'r');
+    let at = put(out, at, digit(first as u16));
+    let at = put_registers(out, at, regs, first);
+    put(out, at, b'\n')
+}
+
+// The report of a run: its steps, and the state after it.
+pub fn report(steps: u32, s: State, out: &mut [u8; 256]) -> usize
+    ensures { λ r. ⌜ Text (reportOf steps s) (now (out .exit)) r ⌝ }
+{
+    let regs = s.regs;
+    let at = put_steps(out, 0, steps);
+    let at = put_control(out, at, s);
+    let at = put_line(out, at, &regs, 0);
+    put_line(out, at, &regs, 8)
+}
+
+// A refusal by its number.
+pub fn refusal(number: u32, out: &mut [u8; 256]) -> usize
+    ensures { λ r. ⌜ Text (refusalOf number) (now (out .exit)) r ⌝ }
+{
+    let at = put_bytes(out, 0, b"refused ");
+    let at = put_decimal(out, at, number);
+    put(out, at, b'\n')
+}

@@ -1,0 +1,2 @@
+-- The definitions of the shifts.
+pub mod Shift

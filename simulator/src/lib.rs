@@ -1,0 +1,47 @@
+//! A plain simulator of the MIL-STD-1750A processor: state, pages, interrupts, instructions.
+//!
+//! The caller lends memory, page registers and ports as slices of 16-bit words. Bit 0 is the most
+//! significant bit of a word. Paragraph numbers in comments are those of the processor's standard.
+
+#![forbid(unsafe_code)]
+
+mod access;
+mod address;
+mod base;
+mod bits;
+mod command;
+mod compare;
+mod difference;
+mod dispatch;
+mod division;
+mod door;
+mod fixed;
+mod float;
+mod float_machine;
+mod image;
+mod interrupt;
+mod jump;
+mod load;
+mod logic;
+mod machine;
+mod page;
+mod product;
+mod program;
+mod shift;
+mod shifts;
+mod stack;
+mod state;
+mod store;
+mod sum;
+
+pub use float::{Float, Outcome, Width, EXTENDED, SINGLE};
+pub use image::load;
+pub use machine::{run, step};
+pub use program::{print, program, PROGRAM_BYTES, PROGRAM_STEPS, PROGRAM_WORDS};
+pub use state::{reset, State, PAGE_REGISTERS, PORTS};
+
+/// The float operations of both widths, each on exact whole numbers.
+pub mod floats {
+    pub use crate::float::{absolute, compared, difference, fixed, floated};
+    pub use crate::float::{negated, normalised, product, quotient, sum};
+}

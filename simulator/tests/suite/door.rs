@@ -1,0 +1,199 @@
+//! The questions at the door: every number, the order of the questions, nothing changed.
+
+use simulator::{load, run, State};
+
+/// Runs with lists of these sizes and checks that a refusal changes nothing.
+fn run_with(sizes: [usize; 3], counter: u32, budget: u32) -> Result<(), u32> {
+    let state = State { counter, ic: 3, ..State::default() };
+    let lists = sizes.map(|size| vec![0xFF00u16; size]);
+    let (mut after, mut changed) = (state.clone(), lists.clone());
+    let [memory, pages, ports] = &mut changed;
+    let answer = run(&mut after, memory, pages, ports, budget);
+    if answer.is_err() {
+        assert!(after == state && changed == lists, "a refusal changes something");
+    }
+    answer
+}
+
+/// Loads into lists of these sizes and checks that a refusal changes nothing.
+fn load_into(sizes: [usize; 3], image: &[u8]) -> Result<State, u32> {
+    let lists = sizes.map(|size| vec![0x5555u16; size]);
+    let mut changed = lists.clone();
+    let [memory, pages, ports] = &mut changed;
+    let answer = load(image, memory, pages, ports);
+    if answer.is_err() {
+        assert!(changed == lists, "a refusal changes something");
+    }
+    answer
+}
+
+/// An image from its entries (kind, start, length) and its words.
+fn image(entries: &[(u16, u32, u32)], words: &[u16]) -> Vec<u8> {
+    let mut bytes = (entries.len() as u16).to_be_bytes().to_vec();
+    for (kind, start, length) in entries {
+        bytes.extend(kind.to_be_bytes());
+        bytes.extend(start.to_be_bytes());
+        bytes.extend(length.to_be_bytes());
+    }
+    bytes.extend(words.iter().flat_map(|word| word.to_be_bytes()));
+    bytes
+}
+
+const GOOD: [usize; 3] = [4096, 512, 1024];
+
+#[test]
+fn question_1_memory() {
+    for size in [0, 1, 4095, 4097, 6144, 1_048_576 + 4096, 1_048_577] {
+        assert_eq!(run_with([size, 512, 1024], 0, 1), Err(1));
+        assert_eq!(load_into([size, 512, 1024], &[0, 0]), Err(1));
+    }
+    for size in [4096, 8192, 12_288, 1_048_576] {
+        assert_eq!(run_with([size, 512, 1024], 0, 1), Ok(()));
+        assert!(load_into([size, 512, 1024], &[0, 0]).is_ok());
+    }
+    assert_eq!(run_with([0, 0, 0], 1, u32::MAX), Err(1));
+    assert_eq!(load_into([0, 0, 0], &[]), Err(1));
+}
+
+#[test]
+fn question_2_page_registers() {
+    for size in [0, 511, 513, 1024] {
+        assert_eq!(run_with([4096, size, 0], 0, u32::MAX), Err(2));
+        assert_eq!(load_into([4096, size, 0], &[]), Err(2));
+    }
+}
+
+#[test]
+fn question_3_ports() {
+    for size in [0, 1023, 1025] {
+        assert_eq!(run_with([4096, 512, size], 1, u32::MAX), Err(3));
+        assert_eq!(load_into([4096, 512, size], &[]), Err(3));
+    }
+}
+
+#[test]
+fn question_4_budget() {
+    assert_eq!(run_with(GOOD, u32::MAX, 1_000_001), Err(4));
+    assert_eq!(run_with(GOOD, 0, u32::MAX), Err(4));
+    assert_eq!(run_with(GOOD, 0, 1_000_000), Ok(()));
+}
+
+#[test]
+fn question_5_counter() {
+    assert_eq!(run_with(GOOD, u32::MAX, 1), Err(5));
+    assert_eq!(run_with(GOOD, u32::MAX - 9, 10), Err(5));
+    assert_eq!(run_with(GOOD, u32::MAX - 10, 10), Ok(()));
+    assert_eq!(run_with(GOOD, u32::MAX, 0), Ok(()));
+}
+
+#[test]
+fn question_6_two_bytes() {
+    assert_eq!(load_into(GOOD, &[]), Err(6));
+    assert_eq!(load_into(GOOD, &[0xFF]), Err(6));
+}
+
+#[test]
+fn question_7_entries() {
+    assert_eq!(load_into(GOOD, &[0, 65]), Err(7));
+    assert_eq!(load_into(GOOD, &[0xFF, 0xFF]), Err(7));
+    let entries: Vec<(u16, u32, u32)> = (0..64).map(|start| (1, start, 1)).collect();
+    assert!(load_into(GOOD, &image(&entries, &[0; 64])).is_ok());
+}
+
+#[test]
+fn question_8_table() {
+    let whole = image(&[(9, 0, 0), (9, 0, 0)], &[]);
+    assert_eq!(load_into(GOOD, &whole[..21]), Err(8));
+    assert_eq!(load_into(GOOD, &whole[..2]), Err(8));
+    assert_eq!(load_into(GOOD, &whole), Err(9));
+}
+
+#[test]
+fn question_9_kind() {
+    for kind in [0, 5, 0x0100, 0xFFFF] {
+        assert_eq!(load_into(GOOD, &image(&[(kind, 0, 0)], &[])), Err(9));
+    }
+}
+
+#[test]
+fn question_10_extent() {
+    for (kind, size) in [(1, 4096), (2, 512), (3, 16), (4, 5)] {
+        let one = |start, length| load_into(GOOD, &image(&[(kind, start, length)], &[0]));
+        assert_eq!(one(0, 0), Err(10));
+        assert_eq!(one(size, 0), Err(10));
+        assert_eq!(one(size, 1), Err(10));
+        assert_eq!(one(0, size + 1), Err(10));
+        assert_eq!(one(u32::MAX, 1), Err(10));
+        assert_eq!(one(1, u32::MAX), Err(10));
+        assert!(one(size - 1, 1).is_ok());
+    }
+}
+
+#[test]
+fn question_11_shared_words() {
+    let two = |second: (u16, u32, u32)| load_into(GOOD, &image(&[(1, 10, 5), second], &[0; 6]));
+    assert_eq!(two((1, 14, 1)), Err(11));
+    assert_eq!(two((1, 10, 1)), Err(11));
+    assert_eq!(two((1, 0, 11)), Err(11));
+    assert_eq!(two((1, 0, 4096)), Err(11));
+    assert!(two((1, 15, 1)).is_ok());
+    assert!(two((1, 9, 1)).is_ok());
+    assert!(two((2, 10, 1)).is_ok());
+}
+
+#[test]
+fn question_12_bodies() {
+    let whole = image(&[(1, 0, 2), (3, 0, 1)], &[1, 2, 3]);
+    assert!(load_into(GOOD, &whole).is_ok());
+    assert_eq!(load_into(GOOD, &whole[..whole.len() - 1]), Err(12));
+    let longer: Vec<u8> = whole.iter().copied().chain([0]).collect();
+    assert_eq!(load_into(GOOD, &longer), Err(12));
+    assert_eq!(load_into(GOOD, &[0, 0, 0]), Err(12));
+}
+
+#[test]
+fn entries_are_asked_one_by_one() {
+    assert_eq!(load_into(GOOD, &image(&[(1, 0, 0), (9, 0, 1)], &[])), Err(10));
+    assert_eq!(load_into(GOOD, &image(&[(1, 0, 1), (1, 0, 1), (9, 0, 0)], &[])), Err(11));
+    assert_eq!(load_into(GOOD, &image(&[(1, 0, 1), (9, 0, 0), (1, 0, 1)], &[])), Err(9));
+}
+
+#[test]
+fn loading_resets_and_writes() {
+    let entries = [(4, 1, 2), (1, 4094, 2), (2, 511, 1), (3, 15, 1), (1, 0, 1)];
+    let words = [0x1234, 0x5678, 1, 2, 0xF803, 0xABCD, 9];
+    let (mut memory, mut pages, mut ports) = (vec![7; 4096], vec![7; 512], vec![7; 1024]);
+    let loaded = load(&image(&entries, &words), &mut memory, &mut pages, &mut ports);
+    let mut expected = State { sw: 0x1234, mk: 0x5678, ..State::default() };
+    expected.r[15] = 0xABCD;
+    assert_eq!(loaded, Ok(expected));
+    assert_eq!((memory[0], memory[1], memory[4094], memory[4095]), (9, 0, 1, 2));
+    assert!(pages[..511].iter().enumerate().all(|(index, word)| *word == index as u16 % 16));
+    assert_eq!(pages[511], 0xF803);
+    assert!(ports.iter().all(|port| *port == 0));
+}
+
+#[test]
+fn loading_all_control_words() {
+    let words = [1, 2, 3, 4, 5];
+    let state = load_into(GOOD, &image(&[(4, 0, 5)], &words)).expect("a good image");
+    assert_eq!([state.ic, state.sw, state.mk, state.pi, state.ft], words);
+}
+
+#[test]
+fn budget_zero_changes_nothing() {
+    let mut state = State { pi: 0xFFFF, hold: true, ..State::default() };
+    let before = state.clone();
+    let (mut memory, mut pages, mut ports) = (vec![1; 4096], vec![2; 512], vec![3; 1024]);
+    assert_eq!(run(&mut state, &mut memory, &mut pages, &mut ports, 0), Ok(()));
+    assert_eq!(state, before);
+    assert!(memory == vec![1; 4096] && pages == vec![2; 512] && ports == vec![3; 1024]);
+}
+
+#[test]
+fn run_makes_exactly_its_budget() {
+    let mut state = State::default();
+    let (mut memory, mut pages, mut ports) = (vec![0xFF00; 4096], vec![0; 512], vec![0; 1024]);
+    assert_eq!(run(&mut state, &mut memory, &mut pages, &mut ports, 123), Ok(()));
+    assert_eq!((state.counter, state.ic, state.timer_a, state.timer_b), (123, 123, 123, 12));
+}
