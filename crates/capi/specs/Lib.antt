@@ -1,0 +1,3 @@
+-- The definitions of the packed state and of the two calls.
+pub mod Packed
+pub mod Calls

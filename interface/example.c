@@ -1,0 +1,112 @@
+/* An example of the C interface: loads examples/loop.image, runs 1,000 steps and prints the registers as the program `twin` does;
+ * then tries lengths that are refused. Run it in the root of the repository. It ends with status 1 if anything is unexpected. */
+#include <stdio.h>
+#include <string.h>
+
+#include "twin1750.h"
+
+enum { MEMORY = 16384, STEPS = 1000 };
+
+/* The machine. A list may be given with fewer words than it has. */
+struct machine {
+    uint16_t state[TWIN1750_STATE + 1];
+    uint16_t memory[MEMORY];
+    uint16_t pages[TWIN1750_PAGES + 1];
+    uint16_t ports[TWIN1750_PORTS + 1];
+};
+
+static struct machine m, kept;
+
+static uint8_t image[32768];
+static size_t image_len;
+
+static int surprises = 0;
+
+static void expect(const char *what, uint32_t answer, uint32_t number)
+{
+    if (answer != number) {
+        fprintf(stderr, "%s: answer %u, expected %u\n", what, (unsigned)answer, (unsigned)number);
+        surprises++;
+    }
+}
+
+/* Reads the image; 0 if there is none. */
+static int read_image(const char *path)
+{
+    FILE *file = fopen(path, "rb");
+    if (file == NULL) {
+        perror(path);
+        return 0;
+    }
+    image_len = fread(image, 1, sizeof image, file);
+    fclose(file);
+    return 1;
+}
+
+static void print_eight(int first)
+{
+    printf("r%d", first);
+    for (int n = first; n < first + 8; n++)
+        printf(" %04X", (unsigned)m.state[n]);
+    printf("\n");
+}
+
+static void print_state(void)
+{
+    printf("steps %d\n", STEPS);
+    printf("ic %04X sw %04X mk %04X pi %04X ft %04X\n", (unsigned)m.state[TWIN1750_IC], (unsigned)m.state[TWIN1750_SW],
+           (unsigned)m.state[TWIN1750_MK], (unsigned)m.state[TWIN1750_PI], (unsigned)m.state[TWIN1750_FT]);
+    print_eight(0);
+    print_eight(8);
+}
+
+/* Calls with given lengths: of the state, memory, page registers and ports. */
+static uint32_t load(size_t words, size_t size, size_t pages, size_t ports)
+{
+    return twin1750_load(image, image_len, m.state, words, m.memory, size, m.pages, pages, m.ports, ports);
+}
+
+static uint32_t run(uint32_t budget, size_t words, size_t size, size_t pages, size_t ports)
+{
+    return twin1750_run(budget, m.state, words, m.memory, size, m.pages, pages, m.ports, ports);
+}
+
+/* Both calls with other lengths answer the number, and leave the whole machine as it was. */
+static void refused(const char *what, uint32_t number, size_t words, size_t size, size_t pages, size_t ports)
+{
+    kept = m;
+    expect(what, load(words, size, pages, ports), number);
+    expect(what, run(1, words, size, pages, ports), number);
+    if (memcmp(&kept, &m, sizeof m) != 0) {
+        fprintf(stderr, "%s: a refusal changed something\n", what);
+        surprises++;
+    }
+    printf("%s: refused %u\n", what, (unsigned)number);
+}
+
+int main(void)
+{
+    if (!read_image("examples/loop.image"))
+        return 1;
+    expect("load", load(TWIN1750_STATE, MEMORY, TWIN1750_PAGES, TWIN1750_PORTS), 0);
+    expect("run", run(STEPS, TWIN1750_STATE, MEMORY, TWIN1750_PAGES, TWIN1750_PORTS), 0);
+    print_state();
+    expect("ic", m.state[TWIN1750_IC], 1);
+    expect("r3", m.state[3], 0x0010);
+    expect("marks", m.state[TWIN1750_MARKS], TWIN1750_A_RUNS + TWIN1750_B_RUNS);
+    expect("counter", 65536u * m.state[TWIN1750_COUNTER_HIGH] + m.state[TWIN1750_COUNTER_LOW], STEPS);
+
+    /* what is not looked at stays too */
+    m.state[TWIN1750_MARKS] |= 0x8000;
+    m.state[31] = 0x1750;
+    refused("31 packed words", 100, TWIN1750_STATE - 1, MEMORY, TWIN1750_PAGES, TWIN1750_PORTS);
+    refused("33 packed words", 100, TWIN1750_STATE + 1, MEMORY, TWIN1750_PAGES, TWIN1750_PORTS);
+    refused("nothing at all", 100, 0, 0, 0, 0);
+    refused("no memory", 1, TWIN1750_STATE, 0, TWIN1750_PAGES, TWIN1750_PORTS);
+    refused("4,095 words of memory", 1, TWIN1750_STATE, 4095, TWIN1750_PAGES, TWIN1750_PORTS);
+    refused("511 page registers", 2, TWIN1750_STATE, MEMORY, TWIN1750_PAGES - 1, TWIN1750_PORTS);
+    refused("513 page registers", 2, TWIN1750_STATE, MEMORY, TWIN1750_PAGES + 1, TWIN1750_PORTS);
+    refused("1,023 ports", 3, TWIN1750_STATE, MEMORY, TWIN1750_PAGES, TWIN1750_PORTS - 1);
+    refused("1,025 ports", 3, TWIN1750_STATE, MEMORY, TWIN1750_PAGES, TWIN1750_PORTS + 1);
+    return surprises == 0 ? 0 : 1;
+}

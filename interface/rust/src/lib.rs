@@ -1,0 +1,54 @@
+//! A software twin of the MIL-STD-1750A flight computer: a safe wrapper over its C interface.
+//!
+//! The caller lends memory, page registers and ports as slices of 16-bit words, and a [`State`]. A call is done, or is
+//! refused with the number of the first question that was answered by "no"; a refusal changes nothing.
+//!
+//! ```
+//! let mut state = twin1750::State::default();
+//! let (mut memory, mut pages, mut ports) = (vec![0; 16384], vec![0; 512], vec![0; 1024]);
+//! // one entry: the words 823F (R3 becomes 16) and 7900 (a branch to itself) from word 0 of memory on
+//! let image = [0, 1, 0, 1, 0, 0, 0, 0, 0, 0, 0, 2, 0x82, 0x3F, 0x79, 0x00];
+//! twin1750::load(&image, &mut state, &mut memory, &mut pages, &mut ports)?;
+//! twin1750::run(1000, &mut state, &mut memory, &mut pages, &mut ports)?;
+//! assert_eq!((state.regs[3], state.ic, state.counter), (16, 1, 1000));
+//! # Ok::<(), twin1750::Refusal>(())
+//! ```
+
+#![deny(unsafe_code)]
+#![deny(missing_docs)]
+
+mod library;
+mod refusal;
+mod state;
+
+pub use library::{load_words, run_words};
+pub use refusal::Refusal;
+pub use state::{State, STATE_WORDS};
+
+/// Loads an image: resets the machine, then writes the bodies.
+pub fn load(
+    image: &[u8],
+    state: &mut State,
+    memory: &mut [u16],
+    pages: &mut [u16],
+    ports: &mut [u16],
+) -> Result<(), Refusal> {
+    let mut words = state.pack();
+    load_words(image, &mut words, memory, pages, ports)?;
+    *state = State::unpack(&words);
+    Ok(())
+}
+
+/// Runs exactly as many steps as the budget says.
+pub fn run(
+    budget: u32,
+    state: &mut State,
+    memory: &mut [u16],
+    pages: &mut [u16],
+    ports: &mut [u16],
+) -> Result<(), Refusal> {
+    let mut words = state.pack();
+    run_words(budget, &mut words, memory, pages, ports)?;
+    *state = State::unpack(&words);
+    Ok(())
+}

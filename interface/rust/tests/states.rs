@@ -1,0 +1,123 @@
+//! The example image, and each part of the state in its word: as the wrapper packs it, and as the library does.
+
+mod common;
+
+use common::{image, Machine};
+use twin1750::{load, run, State};
+
+#[test]
+fn example() {
+    let path = concat!(env!("CARGO_MANIFEST_DIR"), "/../../examples/loop.image");
+    let bytes = std::fs::read(path).expect("the example image");
+    let (mut memory, mut pages, mut ports) = (vec![0; 16384], vec![0; 512], vec![0; 1024]);
+    let mut state = State::default();
+    load(&bytes, &mut state, &mut memory, &mut pages, &mut ports).expect("loaded");
+    assert_eq!(memory[..3], [0x823F, 0x7900, 0]);
+    run(1000, &mut state, &mut memory, &mut pages, &mut ports).expect("run");
+    let mut regs = [0; 16];
+    regs[3] = 0x0010;
+    let left = State {
+        regs,
+        ic: 1,
+        sw: 0x4000,
+        timer_a: 1000,
+        timer_b: 100,
+        a_runs: true,
+        b_runs: true,
+        counter: 1000,
+        ..State::default()
+    };
+    assert_eq!(state, left);
+}
+
+/// A state in which every part differs from the others.
+fn various() -> State {
+    State {
+        regs: std::array::from_fn(|n| 0x100 + n as u16),
+        ic: 0x2001,
+        sw: 0x2002,
+        mk: 0x2003,
+        pi: 0x2004,
+        ft: 0x2005,
+        timer_a: 0x2006,
+        timer_b: 0x2007,
+        counter: 0x2008_2009,
+        ..State::default()
+    }
+}
+
+#[test]
+fn packed_words() {
+    let mut words: Vec<u16> = (0x100..0x110).collect();
+    words.extend([
+        0x2001, 0x2002, 0x2003, 0x2004, 0x2005, 0, 0x2006, 0x2007, 0x2008, 0x2009, 0, 0, 0, 0, 0, 0,
+    ]);
+    assert_eq!(various().pack()[..], words);
+    assert_eq!(State::unpack(&various().pack()), various());
+}
+
+#[test]
+fn packed_marks() {
+    let marks = [
+        (State { enabled: true, ..various() }, 1),
+        (State { hold: true, ..various() }, 2),
+        (State { a_runs: true, ..various() }, 4),
+        (State { b_runs: true, ..various() }, 8),
+    ];
+    for (state, word) in marks {
+        assert_eq!(state.pack()[21], word);
+        assert_eq!(State::unpack(&state.pack()), state);
+    }
+}
+
+/// A run of no steps unpacks and packs: only what is not looked at becomes 0, in the library as in the wrapper.
+#[test]
+fn run_of_no_steps() {
+    for marks in 0..16 {
+        let mut machine = Machine::new();
+        machine.words[21] = 0xBAB0 + marks;
+        let before = machine.clone();
+        assert_eq!(machine.run(0), Ok(()));
+        let mut words = before.state();
+        words[21] = marks;
+        words[26..].fill(0);
+        assert_eq!(machine, Machine { words: words.to_vec(), ..before.clone() });
+        assert_eq!(State::unpack(&before.state()).pack(), words);
+    }
+}
+
+/// The bodies of kinds 3 and 4 stand in words 0 to 20; the rest is that of reset.
+#[test]
+fn loaded_words() {
+    let bodies: Vec<u16> = (1..=21).map(|n| 0x0101 * n).collect();
+    let mut machine = Machine::new();
+    assert_eq!(machine.load(&image(&[(3, 0, 16), (4, 0, 5)], &bodies)), Ok(()));
+    assert_eq!(machine.words[..21], bodies);
+    assert_eq!(machine.words[21..], [12, 0, 0, 0, 0, 0, 0, 0, 0, 0, 0]);
+}
+
+/// Marks, timers and counter after each of the commands TAH, TBH, ENBL, DSBL, OTA and OTB from R0.
+#[test]
+fn marks_of_commands() {
+    let commands = [0x4009, 0x400D, 0x2002, 0x2003, 0x400A, 0x400E];
+    let program: Vec<u16> = commands.iter().flat_map(|command| [0x4800, *command]).collect();
+    let bodies: Vec<u16> = program.iter().copied().chain([0xABCD]).collect();
+    let mut machine = Machine::new();
+    assert_eq!(machine.load(&image(&[(1, 0, 12), (3, 0, 1)], &bodies)), Ok(()));
+    let after = [[8, 0, 0], [0, 0, 0], [3, 0, 0], [0, 0, 0], [4, 0xABCE, 0], [12, 0xABCF, 0xABCD]];
+    for (step, parts) in after.into_iter().enumerate() {
+        assert_eq!(machine.run(1), Ok(()));
+        assert_eq!(machine.words[21..24], parts, "after step {}", step + 1);
+        assert_eq!(machine.words[24..26], [0, step as u16 + 1]);
+    }
+}
+
+/// The counter passes from its low to its high word.
+#[test]
+fn counter_words() {
+    let mut machine = Machine::new();
+    assert_eq!(machine.load(&image(&[(1, 0, 1)], &[0x7400])), Ok(()));
+    machine.words[24..26].copy_from_slice(&[0x0012, 0xFFFF]);
+    assert_eq!(machine.run(1), Ok(()));
+    assert_eq!(machine.words[24..26], [0x0013, 0x0000]);
+}

@@ -1,0 +1,93 @@
+/* The C interface of the twin of the MIL-STD-1750A: two calls, in the static library libcapi.a.
+ *
+ * The machine is lent by the caller as four lists of 16-bit words, in the byte order of the host:
+ *
+ *   state    32 words, see below
+ *   memory   one word per physical address: a multiple of 4,096 words, from 4,096 to 1,048,576
+ *   pages    512 page registers: 0 to 255 the instruction set, 256 to 511 the operand set, each at 16 x group + page
+ *   ports    1,024 ports
+ *
+ * Each pointer is followed by the number of elements that it points to. A pointer is not null, also where that number is 0, and is
+ * aligned for its type; the lists do not overlap. Any number may be given, and one that is wrong is refused. A call keeps nothing
+ * after it has returned, takes nothing from the heap, and may run beside a call on other lists.
+ *
+ * Words of the state (bit 0 is the most significant bit of a word, bit 15 the least significant):
+ *
+ *   0 to 15  R0 to R15
+ *   16       IC, the instruction counter
+ *   17       SW, the status word
+ *   18       MK, the interrupt mask
+ *   19       PI, the pending interrupts
+ *   20       FT, the faults
+ *   21       marks: bit 15 interrupts enabled, bit 14 hold, bit 13 timer A running, bit 12 timer B running;
+ *            bits 0 to 11 are not looked at, and 0 after a call that is done
+ *   22, 23   timer A, timer B
+ *   24, 25   the step counter, its high word first
+ *   26 to 31 not looked at, and 0 after a call that is done
+ *
+ * Answers: 0 when the call is done, else the number of the first question that was answered by "no". A refusal changes nothing:
+ * state, memory, page registers and ports are as they were, down to the bits that are not looked at.
+ *
+ *   both     100 is the state exactly 32 words? (asked first)
+ *            1   is memory a multiple of 4,096 words, from 4,096 to 1,048,576?
+ *            2   are there exactly 512 page registers?
+ *            3   exactly 1,024 ports?
+ *   running  4   is the budget at most 1,000,000?
+ *            5   is counter plus budget at most 4,294,967,295?
+ *   loading  6   does the image have two bytes?
+ *            7   at most 64 entries?
+ *            8   is its table whole?
+ *            9   entry by entry: is the kind 1 to 4?
+ *            10  is the length at least 1, and start plus length within the target?
+ *            11  is no word shared with an earlier entry of the same kind?
+ *            12  do exactly the bodies follow?
+ */
+#ifndef TWIN1750_H
+#define TWIN1750_H
+
+#include <stddef.h>
+#include <stdint.h>
+
+#ifdef __cplusplus
+extern "C" {
+#endif
+
+/* The numbers of words, page registers and ports that a call takes. */
+enum { TWIN1750_STATE = 32, TWIN1750_PAGES = 512, TWIN1750_PORTS = 1024 };
+
+/* The words of the state after R0 to R15. */
+enum {
+    TWIN1750_IC = 16,
+    TWIN1750_SW = 17,
+    TWIN1750_MK = 18,
+    TWIN1750_PI = 19,
+    TWIN1750_FT = 20,
+    TWIN1750_MARKS = 21,
+    TWIN1750_TIMER_A = 22,
+    TWIN1750_TIMER_B = 23,
+    TWIN1750_COUNTER_HIGH = 24,
+    TWIN1750_COUNTER_LOW = 25
+};
+
+/* The marks. */
+enum { TWIN1750_ENABLED = 1, TWIN1750_HOLD = 2, TWIN1750_A_RUNS = 4, TWIN1750_B_RUNS = 8 };
+
+/* Loads an image: resets the machine, then writes the bodies. Of what is lent only the lengths matter to an accepted image. */
+uint32_t twin1750_load(const uint8_t *image, size_t image_len,
+                       uint16_t *state, size_t state_len,
+                       uint16_t *memory, size_t memory_len,
+                       uint16_t *pages, size_t pages_len,
+                       uint16_t *ports, size_t ports_len);
+
+/* Runs exactly as many steps as the budget says. */
+uint32_t twin1750_run(uint32_t budget,
+                      uint16_t *state, size_t state_len,
+                      uint16_t *memory, size_t memory_len,
+                      uint16_t *pages, size_t pages_len,
+                      uint16_t *ports, size_t ports_len);
+
+#ifdef __cplusplus
+}
+#endif
+
+#endif
