@@ -1,0 +1,35 @@
+//! The twin beside the second simulator: random programs on both, and everything compared.
+
+#![forbid(unsafe_code)]
+
+mod case;
+mod code;
+pub mod commands;
+mod compare;
+mod coverage;
+mod door;
+mod images;
+mod numbers;
+pub mod packed;
+mod plant;
+mod programs;
+mod report;
+mod scene;
+mod shapes;
+mod simulated;
+mod subject;
+mod twin;
+mod watch;
+mod words;
+
+/// The seed of the quick batch, and its number of cases.
+pub const SEED: u64 = 1750;
+pub const CASES: u64 = 20_000;
+
+pub use compare::{compare, Batch};
+pub use coverage::Coverage;
+pub use programs::programs;
+pub use simulated::{Simulated, Stepped, Watcher};
+pub use subject::{Call, Lent, Subject};
+pub use twin::Twin;
+pub use watch::Next;

@@ -1,0 +1,139 @@
+//! A random machine: memory full of instructions and data, page registers, vectors, state.
+
+use crate::code::instruction;
+use crate::numbers::Numbers;
+use crate::packed::{COUNTER, FT, IC, MARKS, MK, PI, REST, STATE_WORDS, SW, TIMER_A, TIMER_B};
+use crate::shapes::{shape, Shape};
+use crate::subject::Lent;
+use crate::watch::place;
+use crate::words::{address, edge, float, mask, pending, status, LINKAGE};
+
+/// Where the service blocks stand in page 0, eighteen words and two more for each interrupt.
+const SERVICE: u16 = 0x0180;
+/// Words of a service block: MK, SW, and the sixteen ICs of BEX.
+const BLOCK: u16 = 18;
+
+/// A machine with everything chosen at random.
+pub fn scene(numbers: &mut Numbers) -> Lent {
+    let sizes = [4096, 8192, 12_288, 12_288, 16_384, 16_384, 20_480, 65_536];
+    let size = if numbers.once_in(200) { 1_048_576 } else { numbers.pick(&sizes) };
+    let mut lent = Lent {
+        state: vec![0; STATE_WORDS],
+        memory: vec![0; size],
+        pages: vec![0; 512],
+        ports: vec![0; 1024],
+    };
+    let frames = (size / 4096) as u32;
+    let used: Vec<u16> = (0..frames.min(4)).map(|_| numbers.below(frames) as u16).collect();
+    for frame in &used {
+        let start = 4096 * usize::from(*frame);
+        fill(numbers, &mut lent.memory[start..start + 4096]);
+    }
+    let plain = !numbers.once_in(4);
+    for (index, register) in lent.pages.iter_mut().enumerate() {
+        *register = page_register(numbers, &used, frames as u16, plain && index < 256);
+    }
+    lent.ports.iter_mut().for_each(|port| *port = numbers.word());
+    vectors(numbers, &mut lent);
+    stir(numbers, &mut lent);
+    lent
+}
+
+/// Fills a page with instructions and, in between, data.
+fn fill(numbers: &mut Numbers, page: &mut [u16]) {
+    let mut next = 0;
+    let mut put = |page: &mut [u16], words: &[u16]| {
+        for word in words {
+            if let Some(place) = page.get_mut(next) {
+                *place = *word;
+            }
+            next += 1;
+        }
+        next < page.len()
+    };
+    while match numbers.below(16) {
+        0 => put(page, &float(numbers)),
+        1 => put(page, &[edge(numbers), address(numbers)]),
+        _ => {
+            let words = instruction(numbers);
+            let two = shape((words[0] >> 8) as u8).is_some_and(Shape::two_words);
+            put(page, &words[..if two { 2 } else { 1 }])
+        }
+    } {}
+}
+
+/// A page register: mostly one that admits, sometimes locked, protected or outside the memory.
+fn page_register(numbers: &mut Numbers, used: &[u16], frames: u16, plain: bool) -> u16 {
+    let frame = match numbers.below(if plain { 16 } else { 24 }) {
+        0..=15 => numbers.pick(used),
+        16..=20 => numbers.small(frames),
+        21 | 22 => frames.min(255),
+        _ => numbers.small(256),
+    };
+    if plain {
+        return 0xF000 | frame;
+    }
+    let any = numbers.small(16);
+    let lock = numbers.pick(&[0xF, 0xF, 0xF, 0xF, 0xF, 0xF, 0, 1, 2, 3, any]);
+    let protect = u16::from(numbers.once_in(10));
+    let reserved = if numbers.once_in(8) { numbers.small(8) } else { 0 };
+    (lock << 12) | (protect << 11) | (reserved << 8) | frame
+}
+
+/// Puts linkage and service pointers where entries look for them, most of them ones that work.
+fn vectors(numbers: &mut Numbers, lent: &mut Lent) {
+    let page = place(lent.pages[256], 0);
+    let Some(page) = lent.memory.get_mut(page..page + 4096) else { return };
+    for number in 0..16 {
+        let service = SERVICE + (BLOCK + 2) * number;
+        let block = usize::from(service);
+        page[block] = mask(numbers);
+        page[block + 1] = status(numbers);
+        for ic in &mut page[block + 2..block + usize::from(BLOCK)] {
+            *ic = address(numbers);
+        }
+        let vector = usize::from(0x20 + 2 * number);
+        let any = address(numbers);
+        page[vector] = numbers.pick(&[LINKAGE + 4 * number, LINKAGE + 4 * number, any]);
+        let any = address(numbers);
+        page[vector + 1] = numbers.pick(&[service, service, service, any]);
+    }
+}
+
+/// Gives every word of the state a new value.
+pub fn stir(numbers: &mut Numbers, lent: &mut Lent) {
+    let state = &mut lent.state;
+    for number in 0..16 {
+        match numbers.below(8) {
+            0..=2 => state[number] = edge(numbers),
+            3 | 4 => state[number] = address(numbers),
+            _ => {
+                for (distance, word) in float(numbers).into_iter().enumerate() {
+                    state[(number + distance) % 16] = word;
+                }
+            }
+        }
+    }
+    state[IC] = address(numbers) | if numbers.once_in(8) { 0x0FFF } else { 0 };
+    state[SW] = status(numbers);
+    state[MK] = mask(numbers);
+    state[PI] = if numbers.once_in(3) { pending(numbers) } else { 0 };
+    state[FT] = if numbers.once_in(6) { numbers.word() } else { 0 };
+    state[MARKS] = numbers.word() & numbers.pick(&[0xFFFD, 0xFFFD, 0xFFFF]);
+    for timer in [TIMER_A, TIMER_B] {
+        let near = 0_u16.wrapping_sub(numbers.small(6));
+        state[timer] = if numbers.once_in(2) { near } else { numbers.word() };
+    }
+    let counter = counter(numbers);
+    [state[COUNTER], state[COUNTER + 1]] = [(counter >> 16) as u16, counter as u16];
+    state[REST..].iter_mut().for_each(|word| *word = numbers.word());
+}
+
+/// A counter: small, any, or near its end.
+fn counter(numbers: &mut Numbers) -> u32 {
+    match numbers.below(16) {
+        0 => u32::MAX - numbers.below(400),
+        1..=8 => numbers.below(100),
+        _ => numbers.below(4_000_000_000),
+    }
+}
