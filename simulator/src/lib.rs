@@ -33,6 +33,7 @@ mod stack;
 mod state;
 mod store;
 mod sum;
+pub mod vectors;
 
 pub use float::{Float, Outcome, Width, EXTENDED, SINGLE};
 pub use image::load;

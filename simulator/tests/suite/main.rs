@@ -24,3 +24,4 @@ mod shifts;
 mod stores;
 mod tables;
 mod timers;
+mod vectors;

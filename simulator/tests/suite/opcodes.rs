@@ -35,6 +35,16 @@ fn length(word: u16) -> u16 {
     }
 }
 
+/// Whether an opcode has an instruction.
+pub fn legal(opcode: u16) -> bool {
+    (0..=0xFF).any(|rest| length((opcode << 8) | rest) > 0)
+}
+
+/// Whether an opcode has an address or a command in its second word, with or without an index.
+pub fn indexable(opcode: u16) -> bool {
+    TWO.contains(&opcode)
+}
+
 #[test]
 fn every_first_word() {
     // The word stands last on page 0; page 1 is execute protected, so that a second word faults.

@@ -1,0 +1,104 @@
+# The answers from which the proofs of the crate `vector` are written.
+EQUATIONS = 'mathlib.Core.Path.{_≡_, refl, sym, ap, _∙_}'
+LISTS = 'mathlib.Core.List.{[], _∷_}'
+NAT = 'Prim.Native.Nat.{ℕ, _+_, _*_, _-_, _≤_, _<_}'
+OMEGA = 'native.Mathlib.Omega.{arith}'
+TESTS = 'borrow.Author.Tests.{eq-eqb, ne-eqb, lt-ltb, le-ltb, le-leb, lt-leb}'
+OTHERWISE = 'Rattle.choice.proofs.SelectLaws.{otherwise}'
+LINES = 'Rattle.vector.specs.Lines.'
+FIELDS = 'Rattle.vector.specs.Fields.'
+STATE = 'Rattle.machine.specs.State.'
+TEXTS = 'Rattle.vector.specs.Texts.'
+LAWS = 'Rattle.report.proofs.WroteLaws.'
+
+
+# an answer for each return in order
+def numbered(answers):
+    return {'returns' + ('-%d' % n if n > 1 else ''): answer for n, answer in enumerate(answers, 1)}
+
+
+# the returns of tests one after another: those before one have failed, the last return comes after all of them
+def tested(tests, answer):
+    rows = []
+    for n in range(len(tests) + 1):
+        steps = [FAILED[tests[k]] % ('@if%d .left' % (k + 1)) for k in range(n)]
+        if n < len(tests):
+            steps.append(PASSED[tests[n]] % ('@if%d .taken' % (n + 1)))
+        rows.append(answer(n, steps))
+    return numbered(rows)
+
+
+# the result, and its bound
+def bounded(n, steps):
+    return '(rw (%s) refl, omega arith)' % ', '.join(steps)
+
+
+FAILED = {'<': 'le-ltb _ _ (%s)', '=': 'ne-eqb _ _ (%s)', '≠': 'eq-eqb _ _ (%s)', '≤': 'lt-leb _ _ (%s)'}
+PASSED = {'<': 'lt-ltb _ _ (%s)', '=': 'eq-eqb _ _ (%s)', '≠': 'ne-eqb _ _ (%s)', '≤': 'le-leb _ _ (%s)'}
+DIGITS = ['← @digit%s .ensures .0' % n for n in ('', '2', '3', '4')]
+
+
+def with_digits(n, steps):
+    return bounded(n, DIGITS + steps)
+
+
+# the number and the word of a line are read after the first five tests, the limit after the sixth
+def with_words(n, steps):
+    read = ['← @word .ensures .0', '← @word2 .ensures .0', '← @size .ensures .0'] if n > 4 else []
+    limit = ['← @limit .ensures .0'] if n > 5 else []
+    return 'rw (%s) refl' % ', '.join(steps[:5] + read + steps[5:6] + limit + steps[6:])
+
+
+# a state with one word changed, here or by a call
+def changed(calls):
+    return lambda n, steps: 'rw (%s) %s' % (', '.join(steps), '(%s)' % calls[n] if n in calls else 'refl')
+
+
+# the texts of calls one after another
+def texts(*calls):
+    first, rest = '@%s .ensures .0' % calls[0], calls[1:]
+    return 'then (%s) (%s)' % (first, texts(*rest)) if rest else first
+
+
+def line(unfolds, *calls, back=''):
+    return {'use': [OMEGA, EQUATIONS, LAWS + '{then, whole}', TEXTS + '{%s}' % unfolds], 'unf': {'*': unfolds}, 'returns': back + '(whole (%s))' % texts(*calls)}
+
+
+SETTERS = 'withRegs withIc withSw withMk withPi withFt withEnabled withHold withTa withTb withTaOn withTbOn withCount'
+SETS = STATE + '{%s}' % SETTERS.replace(' ', ', ')
+
+A = {
+    'lines/digit': {'use': [EQUATIONS, OMEGA, TESTS, LINES + '{digitOf}'], 'unf': {'*': 'digitOf'},
+        **tested('<<<<', bounded)},
+    'lines/word': {'use': [EQUATIONS, OMEGA, TESTS, LINES + '{digitOf, given, wordOf}'], 'unf': {'*': 'given wordOf'},
+        **tested('<<<<', with_digits)},
+    'lines/size': {'use': [EQUATIONS, OMEGA, LISTS, OTHERWISE, LINES + '{sizeOf}'], 'unf': {'*': 'sizeOf'}, 'arms': '(@arm, omega arith)',
+        'returns-7': '(sym (otherwise (@args .kind) ((83, _) ∷ (77, _) ∷ (80, _) ∷ (79, _) ∷ (76, _) ∷ (71, _) ∷ []) _ (@match .rest)), omega arith)'},
+    'lines/limit': {'use': [EQUATIONS, OMEGA, TESTS, LINES + '{limitOf}'], 'unf': {'*': 'limitOf'},
+        **tested('≠==', bounded)},
+    'lines/read': {'use': [EQUATIONS, OMEGA, TESTS, LINES + '{entryOf, lineOf}'], 'unf': {'*': 'entryOf lineOf'},
+        **tested('==≠≠≠≤<', with_words)},
+    'set/put': {'use': [EQUATIONS, 'lib.Seq.{set-out}'], 'returns-2': 'sym (set-out _ _ _ (@if1 .left))'},
+    'set/register': {'use': [EQUATIONS, STATE + '{withRegs}'], 'unf': {'*': 'withRegs'}, 'returns': 'refl'},
+    'set/marks': {'use': [EQUATIONS, SETS, FIELDS + '{withMarks}'], 'unf': {'*': 'withMarks ' + SETTERS}, 'returns': 'refl'},
+    'set/high': {'use': [EQUATIONS, SETS, FIELDS + '{withHigh}'], 'unf': {'*': 'withHigh withCount'}, 'returns': 'refl'},
+    'set/low': {'use': [EQUATIONS, SETS, FIELDS + '{withLow}'], 'unf': {'*': 'withLow withCount'}, 'returns': 'refl'},
+    'set/later': {'use': [EQUATIONS, TESTS, SETS, FIELDS + '{withLater}'], 'unf': {'*': 'withLater withTa withTb'},
+        **tested('=====', changed({0: '@marks .ensures', 3: '@high .ensures', 4: '@low .ensures'}))},
+    'set/state': {'use': [EQUATIONS, TESTS, SETS, FIELDS + '{withWord}'], 'unf': {'*': 'withWord withIc withSw withMk withPi withFt'},
+        **tested('<=====', changed({0: '@register .ensures', 6: '@later .ensures'}))},
+    'set/weight': {'use': [EQUATIONS, FIELDS + '{marked}'], 'unf': {'*': 'marked'}, 'returns': 'rw (@if1 .taken) (refl, search needs)', 'returns-2': 'rw (@if1 .left) (refl, search needs)'},
+    'set/marks_of': {'use': [EQUATIONS, OMEGA, FIELDS + '{marksOf}'], 'unf': {'*': 'marksOf'},
+        'returns': 'rw (%s) refl' % ', '.join('← @weight%s .ensures .0' % n for n in ('', '2', '3', '4'))},
+    'text/case_line': line('caseLine', 'put-bytes', 'put-decimal', 'put-bytes2', 'put-decimal2', 'put'),
+    'text/time_line': line('timeLine', 'put-bytes', 'put-hex', 'put-bytes2', 'put-hex2', 'put-bytes3', 'put-hex3', 'put-bytes4', 'put-decimal', 'put', back='rw (← @marks-of .ensures) '),
+    'text/entry_line': line('entryLine', 'put', 'put2', 'put-hex', 'put3', 'put-hex2', 'put4'),
+    'text/numbered_line': line('numberedLine', 'put-bytes', 'put-decimal', 'put'),
+    'compare/least': {'use': [EQUATIONS, OMEGA]},
+    'compare/next': {'use': [EQUATIONS, NAT, OMEGA, 'lib.ListN.{length, getD}', 'borrow.Author.Count.{below-more}'], 'default': 'omega arith',
+        'Inv-loop': '(from ≤ i) × ((k : ℕ) → k < i → from ≤ k → getD before k 0 ≡ getD after k 0)', 'μ-loop': 'length after - i',
+        'loop-holds': '(omega arith, λ k below above. absurd (omega arith))',
+        'loop-again': '(omega arith, below-more _ _ (@loop .inv .1) (λ above. @if1 .left))',
+        'returns': 'record { start = @loop .inv .0; same = @loop .inv .1; changed = λ inside. @if1 .taken }',
+        'returns-2': 'record { start = @loop .inv .0; same = @loop .inv .1; changed = λ inside. absurd (omega arith) }'},
+}

@@ -1,0 +1,2 @@
+-- Known lines, computed.
+pub mod Rows

@@ -1,0 +1,49 @@
+-- `vectors::read_all` meets its contract. Assumes nothing.
+use native.Mathlib.Omega.{arith}
+use borrow.Author.Needs.{needs}
+use Rattle.vectors.proofs.read_all.Statement.{statement}
+use Rattle.vectors.proofs.read_all.Tie as tie
+use Rattle.vectors.proofs.read_all.Reads as reads
+use Rattle.vectors.proofs.read_all.Lts as lts
+use Rattle.vectors.proofs.read_some.Reads as read-some-reads
+
+abbrev Inv-loop : tie.InvT-loop
+Inv-loop line₀ memory₀ pages₀ ports₀ t₀ left₀ line memory pages ports t left = Unit {0}
+
+abbrev μ-loop : tie.MeasureT-loop
+μ-loop line₀ memory₀ pages₀ ports₀ t₀ left₀ line memory pages ports t left = left
+
+loop-holds : tie.Need-loop-holds Inv-loop μ-loop
+loop-holds c = search needs
+
+read-some-requires : tie.Need-read-some-requires Inv-loop μ-loop
+read-some-requires c κs = search needs
+
+returns : tie.Need-returns Inv-loop μ-loop
+returns c = search needs
+
+sub-left : tie.Need-sub-left Inv-loop μ-loop
+sub-left c = search needs
+
+loop-less : tie.Need-loop-less Inv-loop μ-loop
+loop-less c = search needs
+
+loop-again : tie.Need-loop-again Inv-loop μ-loop
+loop-again c = search needs
+
+returns-2 : tie.Need-returns-2 Inv-loop μ-loop
+returns-2 c = search needs
+
+pub read-all-spec : {M : Type 1} → statement M
+read-all-spec =
+    tie.close
+    (tie.spec
+    Inv-loop
+    μ-loop
+    loop-holds
+    read-some-requires
+    returns
+    sub-left
+    loop-less
+    loop-again
+    returns-2)
