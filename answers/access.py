@@ -10,7 +10,7 @@ SPECS = {'Fields': 'Rattle.isa.specs.Fields', 'Addressing': 'Rattle.isa.specs.
          'Spans': 'Rattle.page.specs.Spans'}
 # contracts that give the result's bound after its value
 PROD = {fn: ' .0' for fn in ('field-a', 'field-b', 'registers-from', 'base-accumulator', 'all-from', 'popped-span', 'pushed-span', 'moved-span',
-                             'at-operand', 'words-moved', 'words-of-integer', 'words-of-float', 'words-read', 'words-written')}
+                             'words-moved', 'words-of-integer', 'words-of-float', 'words-read', 'words-written')}
 
 
 # the definitions to unfold as 'File:name name;File:name', further imports, and the needs' answers
@@ -35,8 +35,21 @@ def table(definition, argument, keys, bounded):
               **{last: '(%s, search needs)' % default if bounded else default})
 
 
+# at most three words: one at a register, or those at the derived address; the operations on blocks are left to the others
+def few(definition, words, keys, register):
+    others = ['h%s' % key for key in keys.split()]
+    def part(span, fact, count):
+        return '(rw (%s) refl, rw (%s) (%s), λ %s. rw (%s) (%s))' % (span, span, count, ' '.join(others), fact, span)
+    memory = 'ne-eqb _ _ (@if1 .left), %s, ← @in-memory .ensures, @if2 ' % ', '.join(others)
+    return by('Accesses:%s atOperand' % definition, TESTS, NAT, SPECS['Spans'] + '.{wrapped}',
+              returns=register % part('@span-from .ensures', 'eq-eqb _ _ (@if1 .taken), ← @field-a .ensures .0, ← @get .ensures' + ('' if words == 'read' else ', ← e'), 'search needs'),
+              returns_2=part('@span-from2 .ensures', memory + '.taken, ← @words-%s .ensures .0' % words, '@words-%s .ensures .1' % words),
+              returns_3=part('@span-from3 .ensures', memory + '.left', 'search needs'))
+
+
 FLOATS = '60 61 68 69 74 75 79 80 94 95'
 OPERATION = '(@args .n .form % 256)'
+FEW = '(@%s .ensures .2 (ne-eqb _ _ (@match .rest .0 .0 .1)) (ne-eqb _ _ (@match .rest .0 .1)) (ne-eqb _ _ (@match .rest .1)), omega (arith, @%s .ensures .1))'
 LESS_ONE = 'let e : @less .result ≡ wrapped (@get .result + 65535) = @less .ensures in '
 
 A = {
@@ -75,9 +88,6 @@ A = {
         returns='(rw (le-leb _ _ (@if1 .taken)) (@words-moved .ensures .0), @words-moved .ensures .1)',
         returns_2='(rw (lt-leb _ _ (@if1 .left)) (@words-of-float .ensures .0), @words-of-float .ensures .1)'),
     'accesses/words_written': table('Accesses:wordsWritten', 'operation', '3 4 6 45 46 48 49 51 52 53 56 64', True),
-    'accesses/at_operand': by('Accesses:atOperand',
-        returns='(rw (← @in-memory .ensures, @if1 .taken) (@span-from .ensures), rw (@span-from .ensures) (@Start .pre))',
-        returns_2='(rw (← @in-memory .ensures, @if1 .left) (@span-from2 .ensures), rw (@span-from2 .ensures) (search needs))'),
     'accesses/all_from': by('Accesses:allFrom', OMEGA,
         returns='(rw (← @field-a .ensures .0) (@span-from .ensures), rw (@span-from .ensures) (omega (arith, @field-a .ensures .1)))'),
     'accesses/popped_span': by('Accesses:poppedSpan', OMEGA, sub_t7='omega (arith, @field-a .ensures .1)',
@@ -88,11 +98,10 @@ A = {
     'accesses/moved_span': by('Accesses:movedSpan', TESTS,
         returns='(rw (← @field-a .ensures .0, ← @get .ensures, eq-eqb _ _ (@if1 .taken), ← @get2 .ensures) (@span-from .ensures), rw (@span-from .ensures) (search needs))',
         returns_2='(rw (← @field-a .ensures .0, ← @get .ensures, ne-eqb _ _ (@if1 .left), ← @get3 .ensures) (@span-from2 .ensures), rw (@span-from2 .ensures) (search needs))'),
-    'accesses/reads': by('Accesses:readsOf', LISTS, OTHERWISE, OMEGA, NAT, returns='(@arm, rw (@span-from .ensures) (search needs))',
-        returns_2='(@arm, @all-from .ensures .1)', returns_3='(@arm, @popped-span .ensures .1)', returns_4='(@arm, @moved-span .ensures .1)',
-        returns_5='(rw (← @words-read .ensures .0) (@at-operand .ensures .0 ∙ sym (%s)), omega (arith, @at-operand .ensures .1))' % rest(OPERATION, '37 40 44 47')),
-    'accesses/writes': by('Accesses:writesOf', LISTS, OTHERWISE, OMEGA, NAT, SPECS['Spans'] + '.{wrapped}',
-        returns=LESS_ONE + '(rw (@match .keys1, ← @field-a .ensures .0, ← @get .ensures, ← e) (@span-from .ensures), rw (@span-from .ensures) (search needs))',
-        returns_2='(@arm, @moved-span .ensures .1)', returns_3='(@arm, @all-from .ensures .1)', returns_4='(@arm, @pushed-span .ensures .1)',
-        returns_5='(rw (← @words-written .ensures .0) (@at-operand .ensures .0 ∙ sym (%s)), omega (arith, @at-operand .ensures .1))' % rest(OPERATION, '36 47 50 54')),
+    'accesses/few_reads': few('readsOf', 'read', '40 44 47', '%s'),
+    'accesses/few_writes': few('writesOf', 'written', '47 50 54', LESS_ONE + '%s'),
+    'accesses/reads': by('Accesses:readsOf', TESTS, OMEGA, NAT, returns='(@arm, @all-from .ensures .1)', returns_2='(@arm, @popped-span .ensures .1)',
+        returns_3='(@arm, @moved-span .ensures .1)', returns_4=FEW % (('few-reads',) * 2)),
+    'accesses/writes': by('Accesses:writesOf', TESTS, OMEGA, NAT, returns='(@arm, @moved-span .ensures .1)', returns_2='(@arm, @all-from .ensures .1)',
+        returns_3='(@arm, @pushed-span .ensures .1)', returns_4=FEW % (('few-writes',) * 2)),
 }

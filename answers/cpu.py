@@ -32,6 +32,15 @@ VERDICT = '_ _ _ (@reads .ensures .0) (@writes .ensures .0) (@verify .ensures)'
 WORDS = '(wordsOf (keyOf (@args .core .sw)) (groupOf (@args .core .sw)) (@args .pages .now) (length (@args .memory .now)) %s (@args .memory .now))'
 CLASS = 'rw (← @class-of .ensures, @%s .given .1) '
 CHECKED = '← @key-of .ensures .0, ← @group-of .ensures .0, ← @check-span .ensures, @%s .given .1'
+# of the operations on blocks, 40 44 47 50 54, those of these places are not the one at hand
+def others(fact, places):
+    return ' '.join('(no-block _ %s .%d)' % (fact, place) for place in places)
+
+
+PLAIN = '(sym (@is-block .ensures) ∙ @if1 .left)'
+FROM = '%s (@args .memory .now) (@args .pages .now) (@args .n) _ _ (@few-reads .ensures .2 %s) (@few-reads .ensures .0) (@gather .ensures)' % (JOINED, others(PLAIN, (0, 1, 2)))
+TO = '@few-writes .ensures .2 ' + others('(@Start .pre .2)', (2, 3, 4))
+STORES = '%s %s (@args .n) _ _ _ _ (@key-of .ensures .0) (@group-of .ensures .0) (%s) (@check-span .ensures)' % (JOINED, LISTS, TO)
 ASKED = ['not-false (@whole .result) (@if1 .left)', 'eq-eqb _ _ (@if2 .left)', 'eq-eqb _ _ (@if3 .left)', 'le-leb _ _ (@if4 .left)', 'le-leb _ _ (@if5 .left)']
 
 
@@ -43,29 +52,40 @@ def answered(n, last):
 A = {
     'act/verify': by(STAGES + ' both', use=[STATE + '{keyOf, groupOf}'],
         returns='rw (%s) (@check-span2 .ensures)' % (CHECKED % 'enum-told'), returns_2='rw (%s) refl' % (CHECKED % 'verdict')),
-    'act/user': by(use=[ACT + '{few-written, worked-ordinary}', STATE + '{joined, keyOf, groupOf}', LENGTH, 'Rattle.page.specs.Spans.{wordsOf}', 'Rattle.isa.specs.Accesses.{readsOf}'],
-        block_requires='(@Start .pre .0, sym (@is-block .ensures) ∙ @if1 .taken)',
-        work_requires='(@Start .pre .0, rw (@Start .pre .2) (few-written (@args .regs .now) (@args .n) (sym (@is-block .ensures) ∙ @if1 .left)))',
-        returns='@block .ensures',
-        returns_2='worked-ordinary %s (@args .memory .now) (@args .pages .now) (@args .n) _ _ _ _ (@args .to) _ _ (sym (@is-block .ensures) ∙ @if1 .left) '
-            '(rw (← @Start .pre .1) (@first-words .ensures .0)) (rw (← @Start .pre .1) (@first-words .ensures .1)) (rw (← @Start .pre .1) (@first-words .ensures .2)) '
-            '(@Start .pre .2) (@work .ensures .0) (@work .ensures .1)' % JOINED),
-    'act/govern': by(use=[ACT + '{first-three, governed-done, governed-refused}', STATE + '{joined, keyOf, groupOf}', LENGTH, 'Rattle.page.specs.Spans.{wordsOf}']),
+    'act/refuse': by(returns='λ regs. rw (← @advance .ensures) (@fault .ensures regs)'),
+    'act/carry_block': by(STAGES + ' operated', ISA + ' mil1750', use=[ACT + '{carried-clear, carried-fault, failed, became-worked, block-user}', STATE + '{joined}'],
+        block_requires='(@Start .pre .0, @Start .pre .1)',
+        returns='λ ports. rw (← carried-clear %s (@args .memory .now) (@args .pages .now) ports (@args .n) %s (@enum-told .given .1), block-user _ (@Start .pre .1)) '
+            '(became-worked %s (@args .memory .now) (@args .pages .now) ports (@args .n) _ _ _ (@block .ensures))' % (JOINED, VERDICT, JOINED),
+        returns_2='λ ports. rw (← carried-fault %s (@args .memory .now) (@args .pages .now) ports (@args .n) %s _ (@verdict .given .1)) '
+            '(failed (@args .core) _ (@args .regs .now) (@args .memory .now) (@args .pages .now) ports _ _ (@refuse .ensures))' % (JOINED, VERDICT)),
+    'act/govern': by(use=[ACT + '{governed-done, governed-refused}']),
     'act/call': by(STEP + ' perform', STATE + ' withIc advanced',
         returns='λ regs ports. rw (← @call-vector .ensures, ← @advance .ensures) (@enter .ensures regs ports)'),
-    'act/operate': by(STAGES + ' operated', ISA + ' mil1750', use=[ACT + '{became-worked}', STATE + '{joined}'],
-        returns=CLASS % 'enum-told' + '(became-worked %s %s (@args .n) _ _ _ (@user .ensures))' % (JOINED, LISTS),
-        returns_2=CLASS % 'enum-told2' + '(rw (← @Start .pre .2) (@govern .ensures))',
+    'act/operate': by(STAGES + ' operated', ISA + ' mil1750', use=[ACT + '{few-written, worked-ordinary, first-three, became-worked}', STATE + '{joined, keyOf, groupOf}', LENGTH,
+            'Rattle.page.specs.Spans.{wordsOf}', 'Rattle.isa.specs.Accesses.{readsOf}'],
+        work_requires='(@Start .pre .0, rw (@Start .pre .4) (few-written (@args .regs .now) (@args .n) (@Start .pre .2)))',
+        returns=CLASS % 'enum-told' + '(became-worked %s %s (@args .n) _ _ _ (worked-ordinary %s (@args .memory .now) (@args .pages .now) (@args .n) _ _ _ _ (@args .to) _ _ '
+            '(@Start .pre .2) (@Start .pre .3) (@Start .pre .4) (@work .ensures .0) (@work .ensures .1)))' % (JOINED, LISTS, JOINED),
+        returns_2=CLASS % 'enum-told2' + '(rw (← first-three %s (@args .pages .now) (@args .ports .now) (@args .n) %s _ _ _ (@Start .pre .3)) (@govern .ensures (@args .memory .now)))' % (JOINED, WORDS % '(readsOf (@args .regs .now) (@args .n))'),
         returns_3=CLASS % 'enum-told3' + '(@call .ensures (@args .regs .now) (@args .ports .now))'),
-    'act/carry': by(use=[ACT + '{carried-clear, carried-fault, failed}', STATE + '{joined}'],
-        returns='rw (← carried-clear %s %s (@args .n) %s (@enum-told .given .1)) (@operate .ensures)' % (JOINED, LISTS, VERDICT),
-        returns_2='rw (← carried-fault %s %s (@args .n) %s _ _ (@verdict .given .1) (@advance .ensures)) (failed (@args .core) _ (@args .regs .now) %s _ _ (@fault .ensures))' % (JOINED, LISTS, VERDICT, LISTS)),
+    'act/proceed': by(use=[ACT + '{no-block, accessed-clear, accessed-fault, failed}', STATE + '{joined}'],
+        operate_requires='(@Start .pre .0, @Start .pre .1, @Start .pre .2, @Start .pre .3, %s)' % TO,
+        returns='rw (← accessed-clear %s (@enum-told .given .1)) (@operate .ensures)' % STORES,
+        returns_2='rw (← accessed-fault %s _ (@verdict .given .1)) (failed (@args .core) _ (@args .regs .now) %s _ _ (@refuse .ensures))' % (STORES, LISTS)),
+    'act/carry': by(use=[ACT + '{no-block, words-read, carried-read, carried-denied, failed}', STATE + '{joined}'],
+        carry_block_requires='(@Start .pre .0, sym (@is-block .ensures) ∙ @if1 .taken)',
+        gather_requires='(@Start .pre .0, @few-reads .ensures .1)',
+        proceed_requires='(@Start .pre .0, @Start .pre .1, sym (@is-block .ensures) ∙ @if1 .left, words-read %s (@if2 .taken))' % FROM,
+        returns='@carry-block .ensures (@args .ports .now)',
+        returns_2='rw (← carried-read %s (@args .ports .now) (@if2 .taken)) (@proceed .ensures)' % FROM,
+        returns_3='rw (← carried-denied %s (@args .ports .now) (@if2 .left)) (failed (@args .core) _ (@args .regs .now) %s _ _ (@refuse .ensures))' % (FROM, LISTS)),
     'act/instruct': by(STAGES + ' instructed carried', use=[ACT + '{failed}'],
         returns='rw (← @prepare .ensures, @prepared .given .1) (@carry .ensures)',
         returns_2='rw (← @prepare .ensures, @prepared2 .given .1) (failed (@args .core) _ (@args .regs .now) %s _ _ (@fault .ensures))' % LISTS),
     'run/begin': by(STEP + ' perform', use=[LAWS + '{enters, instructs}', STATE + '{joined}', MACHINE + '{machine}', ISA + '{mil1750}'],
         returns='rw (← enters mil1750 %s _ (@choose .ensures %s refl refl refl refl) (@if1 .taken), ← @release .ensures %s, ← @vector .ensures) (@enter .ensures %s (@args .ports .now))' % (MACHINE_AT, JOINED, REGS, REGS),
-        returns_2='rw (← instructs mil1750 %s _ (@choose .ensures %s refl refl refl refl) (@if1 .left), ← @release .ensures %s) (@instruct .ensures)' % (MACHINE_AT, JOINED, REGS)),
+        returns_2='rw (← instructs mil1750 %s _ (@choose .ensures %s refl refl refl refl) (@if1 .left), ← @release2 .ensures %s) (@instruct .ensures)' % (MACHINE_AT, JOINED, REGS)),
     'run/step': by(STEP + ' step', use=[LAWS + '{became-ticked}'],
         returns='became-ticked _ _ _ _ _ _ _ (@begin .ensures) (@tick .ensures)'),
     'run/whole': by(RUNS + ' wholePages', use=[TESTS],
@@ -81,11 +101,9 @@ A = {
 }
 for first, at in (('returns', 'governed'), ('returns-2', 'governed2')):
     law = 'governed-done' if first == 'returns' else 'governed-refused'
-    rest = '_ (@%s .given .1)' % at if first == 'returns' else '_ _ _ (@%s .given .1) (@supervise .ensures .1, @supervise .ensures .2, @supervise .ensures .3) (@advance .ensures) (@fault .ensures)' % at
+    rest = '_ (@%s .given .1)' % at if first == 'returns' else '_ _ (@%s .given .1) (@supervise .ensures .1, @supervise .ensures .2, @supervise .ensures .3) (@refuse .ensures)' % at
     A['act/govern'][first] = (
-        '%s (@args .core) (@args .memory .now) (@args .n) (@args .regs .now) _ (@args .pages .now) _ (@args .ports .now) _ (@supervise .result) _ '
-        '(@supervise .ensures .0 ∙ first-three %s (@args .pages .now) (@args .ports .now) (@args .n) %s _ _ _ '
-        '(@first-words .ensures .0) (@first-words .ensures .1) (@first-words .ensures .2)) %s' % (law, JOINED, WORDS % '(@args .from)', rest))
+        'λ memory. %s (@args .core) memory (@args .n) (@args .regs .now) _ (@args .pages .now) _ (@args .ports .now) _ (@supervise .result) _ (@supervise .ensures .0) %s' % (law, rest))
 A['run/run_steps'] = {
     'use': [EQUATIONS, OMEGA, LENGTH, STATE + '{joined}', MACHINE + '{machine}', RUNS + '{steps}', ISA + '{mil1750}', LAWS + '{steps-none, steps-step}',
             'Rattle.machine.proofs.MachineLaws.{became-machine, machine-became}'],

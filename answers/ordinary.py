@@ -7,6 +7,7 @@ SPANS = 'Rattle.page.specs.Spans.'
 SPAN_LAWS = 'Rattle.page.proofs.SpanLaws.{kept, taken}'
 STATE = 'Rattle.machine.specs.State.'
 STEP = 'Rattle.machine.specs.Step.'
+GATHERS = 'Rattle.ordinary.specs.Gathers.'
 STORES = 'Rattle.ordinary.specs.Stores.'
 WORK = 'Rattle.effect.specs.Work.'
 ISA = 'Rattle.isa.specs.Mil1750.'
@@ -26,18 +27,23 @@ def by(*unfolded, use=(), **answers):
     return made
 
 
-AT = '(@args .key) (@args .group) (@args .pages .now) (length (@args .memory .now)) (@args .span) (@args .memory .now) (@args .j) (@args .a)'
 KEYED = 'rw (← @key-of .ensures .0, ← @group-of .ensures .0) '
+READ = 'rw (lt-ltb _ _ (@if1 .left), ← @read-word .ensures, @%s .given .1) '
+FEW = ('rw (← gathered-few (keyOf (@args .sw)) (groupOf (@args .sw)) (@args .pages .now) (length (@args .memory .now)) (@args .memory .now) (@args .a) (@args .k) (@Start .pre .1)) ')
+KEYED_READ = 'rw (lt-ltb 0 (@args .k) (omega (arith, @if1 .left)), ← @key-of .ensures .0, ← @group-of .ensures .0, ← @read-word .ensures, @%s .given .1) '
 SEEN = '(context (@args .regs .now) (@args .ic) (@args .sw) (@args .pi)) (@args .n) (@args .x) (@args .y) (@args .z) (operationOf (@args .n .form))'
 
 A = {
-    'word_at': by(use=[OMEGA, LENGTH, LAWS + '{word-there, word-absent}'],
-        returns='word-absent %s (λ l. absurd (omega arith))' % AT, returns_2='word-absent %s (λ l. @if2 .taken)' % AT,
-        returns_3='word-there %s (@if1 .left) (@if2 .left) (@Start .pre .2) _ (@read-word .ensures) _ (@word-of .ensures)' % AT),
-    'first_words': by(SPANS + ' wrapped', use=[LAWS + '{third-address}'],
-        returns='(' + ', '.join(KEYED + part for part in (
-            '(@word-at .ensures refl)', '(@word-at2 .ensures (@wrapping-add-u16 .ensures))',
-            '(@word-at3 .ensures (third-address (@args .span) _ _ (@wrapping-add-u16 .ensures) (@wrapping-add-u162 .ensures)))')) + ')'),
+    'complete': by(GATHERS + ' complete', returns='refl'),
+    'denied': by(GATHERS + ' denied', returns='refl'),
+    'gather_third': by(GATHERS + ' fromThird after', use=[TESTS], returns='rw (le-ltb _ _ (@if1 .taken)) (@complete .ensures)',
+        returns_2=READ % 'got' + '(@complete2 .ensures)', returns_3=READ % 'got2' + '(@denied .ensures)'),
+    'gather_second': by(GATHERS + ' fromSecond after', SPANS + ' wrapped', use=[TESTS], returns='rw (le-ltb _ _ (@if1 .taken)) (@complete .ensures)',
+        returns_2=READ % 'got' + '(rw (← @wrapping-add-u16 .ensures) (@gather-third .ensures))', returns_3=READ % 'got2' + '(@denied .ensures)'),
+    'gather': by(GATHERS + ' fromFirst after', SPANS + ' wrapped', use=[TESTS, LENGTH, OMEGA, LAWS + '{gathered-few}', STATE + '{keyOf, groupOf}'],
+        returns=FEW + '(rw (le-ltb 0 (@args .k) (omega (arith, @if1 .taken))) (@complete .ensures))',
+        returns_2=FEW + '(%s(rw (← @wrapping-add-u16 .ensures) (@gather-second .ensures)))' % KEYED_READ % 'got',
+        returns_3=FEW + '(%s(@denied .ensures))' % KEYED_READ % 'got2'),
     'store_at': by(STORES + ' storedOne', use=[TESTS, SPAN_LAWS],
         returns='rw (le-ltb _ _ (@if1 .taken)) refl', returns_2='rw (lt-ltb _ _ (@if1 .left)) (kept (@args .span) (@args .j) _ _ (@if2 .taken))',
         returns_3='rw (lt-ltb _ _ (@if1 .left)) (taken (@args .span) (@args .j) _ _ _ (@if2 .left) (@write-word .ensures))'),

@@ -1,6 +1,7 @@
 # The answers from which the proofs of the crate `prepare` are written.
 EQUATIONS = 'mathlib.Core.Path.{_≡_, refl, sym, ap, _∙_}'
 TESTS = 'borrow.Author.Tests.{eq-eqb, ne-eqb}'
+OMEGA = 'native.Mathlib.Omega.{arith}'
 SPANS = 'Rattle.page.specs.Spans.'
 STATE = 'Rattle.machine.specs.State.'
 STAGES = 'Rattle.machine.specs.Instructions.'
@@ -23,8 +24,9 @@ ADMITTED = 'ne-eqb _ _ (@if1 .left), ← @class-of .ensures, ← @permit .ensure
 
 A = {
     'look': by(use=[STATE + '{keyOf, groupOf}'], returns='rw (← @key-of .ensures .0, ← @group-of .ensures .0) (@read-word .ensures)'),
-    'class_of': by(ISA + ' classOf', FORMS + ' privilegedOperations', use=[TESTS], arms='@arm',
-        returns_4='rw (ne-eqb _ _ (@match .rest .0 .0 .1), ne-eqb _ _ (@match .rest .0 .1), ne-eqb _ _ (@match .rest .1))'),
+    'class_of': by(ISA + ' classOf', FORMS + ' privilegedOperations', use=[TESTS, OMEGA], arms='@arm',
+        returns='rw (%s)' % ', '.join('ne-eqb (@args .operation) %d (omega (arith, @if1 .taken))' % k for k in (30, 1, 35)),
+        returns_5='rw (ne-eqb _ _ (@match .rest .0 .0 .1), ne-eqb _ _ (@match .rest .0 .1), ne-eqb _ _ (@match .rest .1))'),
     'permit': by(STAGES + ' permitted', STATE + ' keyOf', returns='rw (@enum-told .given .1)', returns_2='rw (@enum-told2 .given .1, ← @key-of .ensures .0) refl',
         returns_3='rw (@enum-told3 .given .1)'),
     'ready': by(STAGES + ' readyAt', returns='refl'),

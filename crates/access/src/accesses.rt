@@ -1,8 +1,11 @@
 // The words that an instruction reads and those that it writes: one span of each.
 ghost use mathlib.Core.Path.{_≡_};
+ghost use mathlib.Core.Bool.{false};
 ghost use Prim.Native.Nat.{_≤_, _<_};
+ghost use lib.Dec.{eqb};
+ghost use Rattle.decode.specs.Forms.{operationOf};
 ghost use Rattle.machine.specs.Machine.{spanFrom};
-ghost use Rattle.isa.specs.Accesses.{wordsMoved, wordsOfInteger, wordsOfFloat, wordsRead, wordsWritten, atOperand, allFrom, poppedSpan, pushedSpan, movedSpan, readsOf, writesOf};
+ghost use Rattle.isa.specs.Accesses.{wordsMoved, wordsOfInteger, wordsOfFloat, wordsRead, wordsWritten, allFrom, poppedSpan, pushedSpan, movedSpan, readsOf, writesOf};
 use crate::addressing::in_memory;
 use crate::fields::field_a;
 use crate::fields::field_b;
@@ -124,17 +127,6 @@ pub fn words_written(operation: u16) -> u16
     }
 }
 
-// k words, at most 3, at the derived address, where the operand is in memory.
-pub fn at_operand(n: Instruction, k: u16) -> Span
-    requires { ⌜ k ≤ 3 ⌝ }
-    ensures { λ r. ⌜ (r ≡ atOperand n k) × (r .count ≤ 3) ⌝ }
-{
-    if in_memory(n.form / 256 % 16) {
-        return span_from(n.address, k);
-    }
-    span_from(n.address, 0)
-}
-
 // The words of LM and STM.
 pub fn all_from(n: Instruction) -> Span
     ensures { λ r. ⌜ (r ≡ allFrom n) × (r .count ≤ 16) ⌝ }
@@ -177,17 +169,45 @@ pub fn moved_span(regs: &[u16; 16], n: Instruction, k: u16) -> Span
     span_from(get(regs, k), 1)
 }
 
+// The words that an operation other than LM, POPM and MOV reads: at most three. URS (5.37) reads one at its register.
+pub fn few_reads(regs: &[u16; 16], n: Instruction) -> Span
+    ensures { λ r. ⌜ (r ≡ spanFrom (r .start) (r .count)) × (r .count ≤ 3)
+        × (eqb (operationOf (n .form)) 40 ≡ false → eqb (operationOf (n .form)) 44 ≡ false → eqb (operationOf (n .form)) 47 ≡ false → r ≡ readsOf (now (regs .entry)) n) ⌝ }
+{
+    let operation = n.form % 256;
+    if operation == 37 {
+        return span_from(get(regs, field_a(n.first)), 1);
+    }
+    if in_memory(n.form / 256 % 16) {
+        return span_from(n.address, words_read(operation));
+    }
+    span_from(n.address, 0)
+}
+
+// The words that an operation other than MOV, STM and PSHM writes: at most three. SJS (5.36) writes one below its register.
+pub fn few_writes(regs: &[u16; 16], n: Instruction) -> Span
+    ensures { λ r. ⌜ (r ≡ spanFrom (r .start) (r .count)) × (r .count ≤ 3)
+        × (eqb (operationOf (n .form)) 47 ≡ false → eqb (operationOf (n .form)) 50 ≡ false → eqb (operationOf (n .form)) 54 ≡ false → r ≡ writesOf (now (regs .entry)) n) ⌝ }
+{
+    let operation = n.form % 256;
+    if operation == 36 {
+        return span_from(less(get(regs, field_a(n.first)), 1), 1);
+    }
+    if in_memory(n.form / 256 % 16) {
+        return span_from(n.address, words_written(operation));
+    }
+    span_from(n.address, 0)
+}
+
 // The words that an instruction reads.
 pub fn reads(regs: &[u16; 16], n: Instruction) -> Span
     ensures { λ r. ⌜ (r ≡ readsOf (now (regs .entry)) n) × (r .count ≤ 16) ⌝ }
 {
-    let operation = n.form % 256;
-    match operation {
-        37 => span_from(get(regs, field_a(n.first)), 1),
+    match n.form % 256 {
         40 => all_from(n),
         44 => popped_span(regs, n),
         47 => moved_span(regs, n, field_b(n.first)),
-        _ => at_operand(n, words_read(operation)),
+        _ => few_reads(regs, n),
     }
 }
 
@@ -195,12 +215,10 @@ pub fn reads(regs: &[u16; 16], n: Instruction) -> Span
 pub fn writes(regs: &[u16; 16], n: Instruction) -> Span
     ensures { λ r. ⌜ (r ≡ writesOf (now (regs .entry)) n) × (r .count ≤ 16) ⌝ }
 {
-    let operation = n.form % 256;
-    match operation {
-        36 => span_from(less(get(regs, field_a(n.first)), 1), 1),
+    match n.form % 256 {
         47 => moved_span(regs, n, field_a(n.first)),
         50 => all_from(n),
         54 => pushed_span(regs, n),
-        _ => at_operand(n, words_written(operation)),
+        _ => few_writes(regs, n),
     }
 }

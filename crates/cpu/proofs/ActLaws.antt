@@ -14,10 +14,11 @@ use Rattle.page.specs.declared.Verdict.{Verdict}
 use Rattle.page.specs.declared.Verdict.the-variants.{Clear, Fault}
 use Rattle.page.specs.declared.Span.{Span}
 use Rattle.page.specs.Spans.{wrapped, checked, wordsOf}
-use Rattle.decode.specs.Forms.{lengthOf, modeOf, operationOf}
+use Rattle.decode.specs.Forms.{lengthOf, modeOf, operationOf, privilegedOperations}
 use Rattle.machine.specs.declared.State.{State}
 use Rattle.machine.specs.declared.Core.{Core}
 use Rattle.machine.specs.declared.Instruction.{Instruction}
+use Rattle.machine.specs.declared.Class.the-variants.{User}
 use Rattle.machine.specs.declared.Prepared.the-variants.{Ready}
 use Rattle.machine.specs.State.{keyOf, groupOf, advanced, joined}
 use Rattle.machine.specs.Machine.{Became, Effect, Supervised, nextOf, spanFrom}
@@ -34,6 +35,8 @@ use Rattle.command.specs.declared.Governed.{Governed}
 use Rattle.command.specs.declared.Governed.the-variants.{Done, Refused}
 use Rattle.command.specs.Outcome.{governed, Kept}
 use Rattle.block.specs.Operation.{isBlock, Worked}
+use Rattle.ordinary.specs.declared.Gathered.{Gathered}
+use Rattle.ordinary.specs.Gathers.{FirstThree, complete, denied, gathered}
 
 -- ---- the verdict on the accesses of a ready instruction
 
@@ -51,9 +54,65 @@ module _ (s : State) (m g o : List ℕ) (n : Instruction) (from to : Span) (v : 
   unfolding carried accessed mil1750
   carried-clear h = rw (agreed Clear h) refl
 
-  pub carried-fault : (b a : ℕ) → v ≡ Fault b → a ≡ wrapped (s .ic + lengthOf (n .form)) → fail b a ≡ carried mil1750 s g o (view s m g) (Ready n)
+  pub carried-fault : (b : ℕ) → v ≡ Fault b → fail b (wrapped (s .ic + lengthOf (n .form))) ≡ carried mil1750 s g o (view s m g) (Ready n)
   unfolding carried accessed mil1750 nextOf advanced
-  carried-fault b a h f = rw (agreed (Fault b) h, f) refl
+  carried-fault b h = rw (agreed (Fault b) h) refl
+
+-- ---- at most three words, gathered
+
+pub all-gathered : (w : Verdict) (ws : List ℕ) (v : Gathered) → v ≡ gathered w ws → v .clear ≡ true → (w ≡ Clear) × FirstThree ws (v .x) (v .y) (v .z)
+unfolding gathered complete denied
+all-gathered Clear ws v e h = (refl, record { first-is = ap (λ r. r .x) e; second-is = ap (λ r. r .y) e; third-is = ap (λ r. r .z) e })
+all-gathered (Fault b) ws v e h = absurd (false≢true (sym (ap (λ r. r .clear) e) ∙ h))
+
+pub denied-gathered : (w : Verdict) (ws : List ℕ) (v : Gathered) → v ≡ gathered w ws → v .clear ≡ false → w ≡ Fault (v .fault)
+unfolding gathered complete denied
+denied-gathered Clear ws v e h = absurd (false≢true (sym h ∙ ap (λ r. r .clear) e))
+denied-gathered (Fault b) ws v e h = ap Fault (sym (ap (λ r. r .fault) e))
+
+-- v is what the code gathered from the span
+module _ (s : State) (m g : List ℕ) (n : Instruction) (from : Span) (v : Gathered) (i : from ≡ readsOf (s .regs) n) (j : from ≡ spanFrom (from .start) (from .count))
+    (k : v
+    ≡ gathered (checked (keyOf (s .sw)) (groupOf (s .sw)) g (length m) (spanFrom (from .start) (from .count)) Read)
+    (wordsOf (keyOf (s .sw)) (groupOf (s .sw)) g (length m) (spanFrom (from .start) (from .count)) m)) where
+  gathers : v
+      ≡ gathered (checked (keyOf (s .sw)) (groupOf (s .sw)) g (length m) (readsOf (s .regs) n) Read)
+      (wordsOf (keyOf (s .sw)) (groupOf (s .sw)) g (length m) (readsOf (s .regs) n) m)
+  gathers =
+      k
+      ∙ ap (λ p. gathered (checked (keyOf (s .sw)) (groupOf (s .sw)) g (length m) p Read) (wordsOf (keyOf (s .sw)) (groupOf (s .sw)) g (length m) p m)) (sym j ∙ i)
+
+  pub words-read : v .clear ≡ true → FirstThree (wordsOf (keyOf (s .sw)) (groupOf (s .sw)) g (length m) (readsOf (s .regs) n) m) (v .x) (v .y) (v .z)
+  words-read h = all-gathered _ _ v gathers h .1
+
+  pub carried-read : (o : List ℕ) → v .clear ≡ true
+      → accessed mil1750 s g o (view s m g) n (checked (keyOf (s .sw)) (groupOf (s .sw)) g (length m) (writesOf (s .regs) n) Write)
+      ≡ carried mil1750 s g o (view s m g) (Ready n)
+  unfolding carried both mil1750
+  carried-read o h = rw (all-gathered _ _ v gathers h .0) refl
+
+  pub carried-denied : (o : List ℕ) → v .clear ≡ false
+      → fail (v .fault) (wrapped (s .ic + lengthOf (n .form))) ≡ carried mil1750 s g o (view s m g) (Ready n)
+  unfolding carried both accessed mil1750 nextOf advanced
+  carried-denied o h = rw (denied-gathered _ _ v gathers h) refl
+
+-- v is the verdict that the code came to on the stores, which go to a span
+module _ (s : State) (m g o : List ℕ) (n : Instruction) (key group : ℕ) (to : Span) (v : Verdict)
+    (d : key ≡ keyOf (s .sw)) (e : group ≡ groupOf (s .sw)) (j : to ≡ writesOf (s .regs) n) (k : v ≡ checked key group g (length m) to Write) where
+  on-stores : (c : Verdict) → v ≡ c → checked (keyOf (s .sw)) (groupOf (s .sw)) g (length m) (writesOf (s .regs) n) Write ≡ c
+  on-stores c h = rw (← d, ← e, ← j) (sym k ∙ h)
+
+  pub accessed-clear : v ≡ Clear
+      → operated mil1750 s g o (classOf (operationOf (n .form))) n (wordsOf (keyOf (s .sw)) (groupOf (s .sw)) g (length m) (readsOf (s .regs) n) m)
+      ≡ accessed mil1750 s g o (view s m g) n (checked (keyOf (s .sw)) (groupOf (s .sw)) g (length m) (writesOf (s .regs) n) Write)
+  unfolding accessed mil1750
+  accessed-clear h = rw (on-stores Clear h) refl
+
+  pub accessed-fault : (b : ℕ) → v ≡ Fault b
+      → fail b (wrapped (s .ic + lengthOf (n .form)))
+      ≡ accessed mil1750 s g o (view s m g) n (checked (keyOf (s .sw)) (groupOf (s .sw)) g (length m) (writesOf (s .regs) n) Write)
+  unfolding accessed nextOf advanced mil1750
+  accessed-fault b h = rw (on-stores (Fault b) h) refl
 
 -- ---- a fault
 
@@ -64,13 +123,31 @@ failed c r regs m g o b a f = record { state-is = f regs; memory-is = refl; page
 
 -- ---- a user's operation
 
--- an operation that is not on blocks is none of theirs
-differs : (operation k : ℕ) → isBlock operation ≡ false → isBlock k ≡ true → eqb operation k ≡ false
-differs operation k h i = by (eqb operation k) refl
+-- two operations of which one is on blocks and the other not
+apart : (operation k : ℕ) → (isBlock operation ≡ isBlock k → ⊥) → eqb operation k ≡ false
+apart operation k h = by (eqb operation k) refl
   where
     by : (b : Bool) → eqb operation k ≡ b → eqb operation k ≡ false
-    by true e = absurd (false≢true (sym h ∙ ap isBlock (eqb-true operation k e) ∙ i))
+    by true e = absurd (h (ap isBlock (eqb-true operation k e)))
     by false e = e
+
+-- an operation that is not on blocks is none of theirs
+differs : (operation k : ℕ) → isBlock operation ≡ false → isBlock k ≡ true → eqb operation k ≡ false
+differs operation k h i = apart operation k (λ e. false≢true (sym h ∙ e ∙ i))
+
+pub no-block : (operation : ℕ) → isBlock operation ≡ false
+    → (eqb operation 40 ≡ false) × (eqb operation 44 ≡ false) × (eqb operation 47 ≡ false) × (eqb operation 50 ≡ false) × (eqb operation 54 ≡ false)
+unfolding isBlock
+no-block operation h =
+    let f : (k : ℕ) → isBlock k ≡ true → eqb operation k ≡ false = λ k i. differs operation k h i in
+    (f 40 refl, f 44 refl, f 47 refl, f 50 refl, f 54 refl)
+
+-- those on blocks are users'
+pub block-user : (operation : ℕ) → isBlock operation ≡ true → classOf operation ≡ User
+unfolding isBlock classOf privilegedOperations
+block-user operation h =
+    let f : (k : ℕ) → isBlock k ≡ false → eqb operation k ≡ false = λ k i. apart operation k (λ e. false≢true (sym i ∙ sym e ∙ h)) in
+    rw (f 30 refl, f 1 refl, f 35 refl) refl
 
 -- whether each rule has at most three
 abbrev few : List (ℕ × ℕ) → Bool
@@ -116,12 +193,13 @@ few-written regs n h =
     by false false a = omega arith
 
 pub worked-ordinary : (s : State) (m g : List ℕ) (n : Instruction) (ws : List ℕ) (x y z : ℕ) (to : Span) (t : State) (w : List ℕ)
-    → isBlock (operationOf (n .form)) ≡ false → x ≡ getD ws 0 0 → y ≡ getD ws 1 0 → z ≡ getD ws 2 0 → to ≡ writesOf (s .regs) n
+    → isBlock (operationOf (n .form)) ≡ false → FirstThree ws x y z → to ≡ writesOf (s .regs) n
     → t ≡ affected s (ordinary (contextOf s) n x y z (operationOf (n .form)))
     → w ≡ stored s m g (ordinary (contextOf s) n x y z (operationOf (n .form))) to
     → Worked s m g n (executed (contextOf s) n ws) t w
-worked-ordinary s m g n ws x y z to t w h e f i j p q =
-    let d : ordinary (contextOf s) n x y z (operationOf (n .form)) ≡ executed (contextOf s) n ws = rw (e, f, i) (ordinary-executed (contextOf s) n h ws) in
+worked-ordinary s m g n ws x y z to t w h e j p q =
+    let d : ordinary (contextOf s) n x y z (operationOf (n .form)) ≡ executed (contextOf s) n ws =
+    rw (e .first-is, e .second-is, e .third-is) (ordinary-executed (contextOf s) n h ws) in
     record { state-is = p ∙ ap (affected s) d; memory-is = q ∙ ap (λ k. stored s m g k to) d ∙ ap (stored s m g (executed (contextOf s) n ws)) j }
 
 pub became-worked : (s : State) (m g o : List ℕ) (n : Instruction) (e : Effect) (t : State) (w : List ℕ)
@@ -131,10 +209,10 @@ became-worked s m g o n e t w b = record { state-is = b .state-is; memory-is = b
 
 -- ---- a privileged operation: it sees the first three words alone
 
-pub first-three : (s : State) (g o : List ℕ) (n : Instruction) (ws : List ℕ) (x y z : ℕ) → x ≡ getD ws 0 0 → y ≡ getD ws 1 0 → z ≡ getD ws 2 0
+pub first-three : (s : State) (g o : List ℕ) (n : Instruction) (ws : List ℕ) (x y z : ℕ) → FirstThree ws x y z
     → supervisedBy s g o n (x ∷ y ∷ z ∷ []) ≡ supervisedBy s g o n ws
 unfolding supervisedBy
-first-three s g o n ws x y z e f i = rw (e, f, i) refl
+first-three s g o n ws x y z e = rw (e .first-is, e .second-is, e .third-is) refl
 
 module _ (c : Core) (m : List ℕ) (n : Instruction) (regs regs' g g' o o' : List ℕ) (v : Governed) (q : Supervised) (e : governed v regs' g' o' ≡ q) where
   pub governed-done : (t : Core) → v ≡ Done t → Became (perform (joined c regs) m g o (supervised (joined c regs) n q)) (joined t regs') m g' o'
@@ -142,10 +220,10 @@ module _ (c : Core) (m : List ℕ) (n : Instruction) (regs regs' g g' o o' : Lis
   governed-done t h =
       rw (← e, h) (record { state-is = refl; memory-is = refl; pages-is = refl; ports-is = refl })
 
-  pub governed-refused : (b a : ℕ) (r : Core) → v ≡ Refused b → Kept v regs regs' × Kept v g g' × Kept v o o' → a ≡ wrapped (c .ic + lengthOf (n .form))
-      → ((x : List ℕ) → joined r x ≡ faulted (joined c x) b a)
+  pub governed-refused : (b : ℕ) (r : Core) → v ≡ Refused b → Kept v regs regs' × Kept v g g' × Kept v o o'
+      → ((x : List ℕ) → joined r x ≡ faulted (joined c x) b (wrapped (c .ic + lengthOf (n .form))))
       → Became (perform (joined c regs) m g o (supervised (joined c regs) n q)) (joined r regs') m g' o'
   unfolding governed Kept supervised perform nextOf advanced
-  governed-refused b a r h k i f =
+  governed-refused b r h k f =
       let kept : (regs ≡ regs') × (g ≡ g') × (o ≡ o') = subst (λ w. Kept w regs regs' × Kept w g g' × Kept w o o') h k in
-      rw (← e, h, ← kept .0, ← kept .1, ← kept .2, ← i) (record { state-is = f regs; memory-is = refl; pages-is = refl; ports-is = refl })
+      rw (← e, h, ← kept .0, ← kept .1, ← kept .2) (record { state-is = f regs; memory-is = refl; pages-is = refl; ports-is = refl })

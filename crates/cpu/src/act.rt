@@ -1,21 +1,24 @@
 // One instruction from its accesses on (Scope, "One step", 2 and 3), on a core and the registers lent beside it. Callers have 512 page
 // registers and 1,024 ports: a run asks for them.
 ghost use mathlib.Core.Path.{_≡_};
-ghost use mathlib.Core.List.{List};
-ghost use Prim.Native.Nat.{ℕ, _<_, _%_};
+ghost use mathlib.Core.Bool.{true, false};
+ghost use mathlib.Core.List.{List, [], _∷_};
+ghost use Prim.Native.Nat.{ℕ, _+_, _<_, _%_};
 ghost use lib.ListN.{length};
-ghost use Rattle.page.specs.Spans.{checked, wordsOf};
-ghost use Rattle.decode.specs.Forms.{operationOf};
+ghost use Rattle.page.specs.Spans.{wrapped, checked, wordsOf};
+ghost use Rattle.decode.specs.Forms.{lengthOf, operationOf};
 ghost use Rattle.decode.specs.Decode.{forms};
 ghost use Rattle.machine.specs.State.{keyOf, groupOf, joined};
 ghost use Rattle.machine.specs.Machine.{Became};
 ghost use Rattle.machine.specs.Instructions as spec;
-ghost use Rattle.machine.specs.Step.{perform};
+ghost use Rattle.machine.specs.Step.{faulted, perform};
 ghost use Rattle.isa.specs.Accesses.{readsOf, writesOf};
-ghost use Rattle.isa.specs.Execute.{executed};
 ghost use Rattle.isa.specs.Commands.{supervisedBy};
-ghost use Rattle.isa.specs.Mil1750.{classOf, contextOf, mil1750};
-ghost use Rattle.block.specs.Operation.{Worked};
+ghost use Rattle.isa.specs.Mil1750.{classOf, mil1750};
+ghost use Rattle.block.specs.Operation.{isBlock};
+ghost use Rattle.ordinary.specs.Gathers.{FirstThree};
+use access::accesses::few_reads;
+use access::accesses::few_writes;
 use access::accesses::reads;
 use access::accesses::writes;
 use block::block;
@@ -32,7 +35,7 @@ use machine::Class;
 use machine::Core;
 use machine::Instruction;
 use machine::Prepared;
-use ordinary::first_words;
+use ordinary::gather;
 use ordinary::work;
 use page::Access;
 use page::Span;
@@ -56,51 +59,57 @@ fn verify(sw: u16, pages: &[u16], size: usize, from: Span, to: Span) -> Verdict
     }
 }
 
-// A user's operation, which reads and writes these spans.
-fn user(
+// A refused access: its FT bit is b, and IC goes past all words of the instruction.
+fn refuse(core: Core, form: u16, b: u16) -> Core
+    ensures { λ r. ⌜ ((regs : List ℕ) → joined r regs ≡ faulted (joined core regs) b (wrapped (core .ic + lengthOf form))) ⌝ }
+{
+    fault(core, b, advance(core.ic, form / 4096))
+}
+
+// An operation on a block, with any ports: its accesses are checked before it changes anything.
+fn carry_block(
     core: Core,
     regs: &mut [u16; 16],
     memory: &mut [u16],
     pages: &[u16],
     n: Instruction,
-    from: Span,
-    to: Span,
 ) -> Core
-    requires { ⌜ (length (now pages) ≡ 512) × (from ≡ readsOf (now regs) n) × (to ≡ writesOf (now regs) n) ⌝ }
-    ensures { λ r. ⌜ Worked (joined core (now (regs .entry))) (now (memory .entry)) (now (pages .entry)) n
-        (executed (contextOf (joined core (now (regs .entry)))) n
-        (wordsOf (keyOf (core .sw)) (groupOf (core .sw)) (now (pages .entry)) (length (now (memory .entry))) (readsOf (now (regs .entry)) n) (now (memory .entry))))
-        (joined r (now (regs .exit))) (now (memory .exit)) ⌝ }
+    requires { ⌜ (length (now pages) ≡ 512) × (isBlock (operationOf (n .form)) ≡ true) ⌝ }
+    ensures { λ r. ⌜ ((ports : List ℕ) → Became (perform (joined core (now (regs .entry))) (now (memory .entry)) (now (pages .entry)) ports
+        (spec.carried mil1750 (joined core (now (regs .entry))) (now (pages .entry)) ports
+        (spec.view (joined core (now (regs .entry))) (now (memory .entry)) (now (pages .entry))) (Prepared.Ready n)))
+        (joined r (now (regs .exit))) (now (memory .exit)) (now (pages .entry)) ports) ⌝ }
 {
-    if is_block(n.form % 256) {
-        return block(core, regs, memory, pages, n);
+    let from = reads(regs, n);
+    let to = writes(regs, n);
+    let verdict = verify(core.sw, pages, memory.len(), from, to);
+    match verdict {
+        Verdict::Clear => block(core, regs, memory, pages, n),
+        Verdict::Fault(b) => refuse(core, n.form, b),
     }
-    let ws = first_words(core.sw, memory, pages, from);
-    work(core, regs, memory, pages, n, ws, to)
 }
 
-// A privileged operation, which reads this span.
+// A privileged operation on the words x, y and z.
 fn govern(
     core: Core,
     regs: &mut [u16; 16],
-    memory: &[u16],
     pages: &mut [u16],
     ports: &mut [u16],
     n: Instruction,
-    from: Span,
+    x: u16,
+    y: u16,
+    z: u16,
 ) -> Core
     requires { ⌜ (length (now pages) ≡ 512) × (length (now ports) ≡ 1024) ⌝ }
-    ensures { λ r. ⌜ Became (perform (joined core (now (regs .entry))) (now (memory .entry)) (now (pages .entry)) (now (ports .entry))
+    ensures { λ r. ⌜ ((memory : List ℕ) → Became (perform (joined core (now (regs .entry))) memory (now (pages .entry)) (now (ports .entry))
         (spec.supervised (joined core (now (regs .entry))) n
-        (supervisedBy (joined core (now (regs .entry))) (now (pages .entry)) (now (ports .entry)) n
-        (wordsOf (keyOf (core .sw)) (groupOf (core .sw)) (now (pages .entry)) (length (now (memory .entry))) from (now (memory .entry))))))
-        (joined r (now (regs .exit))) (now (memory .entry)) (now (pages .exit)) (now (ports .exit)) ⌝ }
+        (supervisedBy (joined core (now (regs .entry))) (now (pages .entry)) (now (ports .entry)) n (x ∷ y ∷ z ∷ []))))
+        (joined r (now (regs .exit))) memory (now (pages .exit)) (now (ports .exit))) ⌝ }
 {
-    let ws = first_words(core.sw, memory, pages, from);
-    let governed = supervise(core, regs, pages, ports, n, ws.x, ws.y, ws.z);
+    let governed = supervise(core, regs, pages, ports, n, x, y, z);
     match governed {
         Governed::Done(t) => t,
-        Governed::Refused(b) => fault(core, b, advance(core.ic, n.form / 4096)),
+        Governed::Refused(b) => refuse(core, n.form, b),
     }
 }
 
@@ -129,7 +138,7 @@ fn call(core: Core, memory: &mut [u16], pages: &[u16], k: u16) -> Core
     enter(next, memory, pages, 5, v)
 }
 
-// An operation whose accesses are open, by its class.
+// An operation on at most three words, which are x, y and z, whose accesses are open, by its class.
 fn operate(
     core: Core,
     regs: &mut [u16; 16],
@@ -137,10 +146,14 @@ fn operate(
     pages: &mut [u16],
     ports: &mut [u16],
     n: Instruction,
-    from: Span,
+    x: u16,
+    y: u16,
+    z: u16,
     to: Span,
 ) -> Core
-    requires { ⌜ (length (now pages) ≡ 512) × (length (now ports) ≡ 1024) × (from ≡ readsOf (now regs) n) × (to ≡ writesOf (now regs) n) ⌝ }
+    requires { ⌜ (length (now pages) ≡ 512) × (length (now ports) ≡ 1024) × (isBlock (operationOf (n .form)) ≡ false)
+        × FirstThree (wordsOf (keyOf (core .sw)) (groupOf (core .sw)) (now pages) (length (now memory)) (readsOf (now regs) n) (now memory)) x y z
+        × (to ≡ writesOf (now regs) n) ⌝ }
     ensures { λ r. ⌜ Became (perform (joined core (now (regs .entry))) (now (memory .entry)) (now (pages .entry)) (now (ports .entry))
         (spec.operated mil1750 (joined core (now (regs .entry))) (now (pages .entry)) (now (ports .entry)) (classOf (operationOf (n .form))) n
         (wordsOf (keyOf (core .sw)) (groupOf (core .sw)) (now (pages .entry)) (length (now (memory .entry))) (readsOf (now (regs .entry)) n) (now (memory .entry)))))
@@ -148,9 +161,39 @@ fn operate(
 {
     let class = class_of(n.form % 256);
     match class {
-        Class::User => user(core, regs, memory, pages, n, from, to),
-        Class::Supervisor => govern(core, regs, memory, pages, ports, n, from),
+        Class::User => work(core, regs, memory, pages, n, x, y, z, to),
+        Class::Supervisor => govern(core, regs, pages, ports, n, x, y, z),
         Class::Executive => call(core, memory, pages, n.first % 16),
+    }
+}
+
+// An operation on at most three words, which have been read: its stores are checked before it changes anything.
+fn proceed(
+    core: Core,
+    regs: &mut [u16; 16],
+    memory: &mut [u16],
+    pages: &mut [u16],
+    ports: &mut [u16],
+    n: Instruction,
+    x: u16,
+    y: u16,
+    z: u16,
+) -> Core
+    requires { ⌜ (length (now pages) ≡ 512) × (length (now ports) ≡ 1024) × (isBlock (operationOf (n .form)) ≡ false)
+        × FirstThree (wordsOf (keyOf (core .sw)) (groupOf (core .sw)) (now pages) (length (now memory)) (readsOf (now regs) n) (now memory)) x y z ⌝ }
+    ensures { λ r. ⌜ Became (perform (joined core (now (regs .entry))) (now (memory .entry)) (now (pages .entry)) (now (ports .entry))
+        (spec.accessed mil1750 (joined core (now (regs .entry))) (now (pages .entry)) (now (ports .entry))
+        (spec.view (joined core (now (regs .entry))) (now (memory .entry)) (now (pages .entry))) n
+        (checked (keyOf (core .sw)) (groupOf (core .sw)) (now (pages .entry)) (length (now (memory .entry))) (writesOf (now (regs .entry)) n) Access.Write)))
+        (joined r (now (regs .exit))) (now (memory .exit)) (now (pages .exit)) (now (ports .exit)) ⌝ }
+{
+    let key = key_of(core.sw);
+    let group = group_of(core.sw);
+    let to = few_writes(regs, n);
+    let verdict = check_span(Access::Write, key, group, pages, memory.len(), to);
+    match verdict {
+        Verdict::Clear => operate(core, regs, memory, pages, ports, n, x, y, z, to),
+        Verdict::Fault(b) => refuse(core, n.form, b),
     }
 }
 
@@ -169,13 +212,25 @@ fn carry(
         (spec.view (joined core (now (regs .entry))) (now (memory .entry)) (now (pages .entry))) (Prepared.Ready n)))
         (joined r (now (regs .exit))) (now (memory .exit)) (now (pages .exit)) (now (ports .exit)) ⌝ }
 {
-    let from = reads(regs, n);
-    let to = writes(regs, n);
-    let verdict = verify(core.sw, pages, memory.len(), from, to);
-    match verdict {
-        Verdict::Clear => operate(core, regs, memory, pages, ports, n, from, to),
-        Verdict::Fault(b) => fault(core, b, advance(core.ic, n.form / 4096)),
+    if is_block(n.form % 256) {
+        return carry_block(core, regs, memory, pages, n);
     }
+    let from = few_reads(regs, n);
+    let gathered = gather(core.sw, memory, pages, from.start, from.count);
+    if gathered.clear {
+        return proceed(
+            core,
+            regs,
+            memory,
+            pages,
+            ports,
+            n,
+            gathered.x,
+            gathered.y,
+            gathered.z,
+        );
+    }
+    refuse(core, n.form, gathered.fault)
 }
 
 // The instruction at IC, from a core whose hold mark is clear. The table is the decoder's.

@@ -32,12 +32,12 @@ fn begin(
         (joined r (now (regs .exit))) (now (memory .exit)) (now (pages .exit)) (now (ports .exit)) ⌝ }
 {
     let n = choose(core.hold, core.enabled, core.mk, core.pi);
-    let next = release(core);
+    // each way has a core of its own: one that `enter` is lent stays out of the way of instructions
     if n < 16 {
         let v = vector(memory, pages, n);
-        return enter(next, memory, pages, n, v);
+        return enter(release(core), memory, pages, n, v);
     }
-    instruct(next, regs, memory, pages, ports, table)
+    instruct(release(core), regs, memory, pages, ports, table)
 }
 
 // One step.

@@ -5,41 +5,65 @@ use mathlib.Core.Bool.{Bool, true, false, cond}
 use mathlib.Core.List.{List, [], _∷_}
 use native.Mathlib.Omega.{arith}
 use lib.Dec.{ltb}
-use lib.ListN.{length, getD}
+use lib.ListN.{length, set}
 use Rattle.choice.specs.Select.{ruleAt, spans, below}
 use Rattle.choice.proofs.SelectLaws.{ranged, beyond}
 use Rattle.page.specs.declared.Span.{Span}
 use Rattle.page.specs.declared.Access.the-variants.{Read, Write}
-use Rattle.page.specs.declared.Got.{Got}
+use Rattle.page.specs.declared.Place.{Place}
+use Rattle.page.specs.declared.Place.the-variants.{At, Refused}
+use Rattle.page.specs.declared.Verdict.the-variants.{Clear}
 use Rattle.page.specs.Pages.{lookup}
-use Rattle.page.specs.Spans.{wrapped, gotAt, wordOf, putAt, passed, wordsOf, writtenFrom, written}
+use Rattle.page.specs.Spans.{wrapped, gotAt, wordOf, putAt, andThen, blank, passed, checkedFrom, checked, readFrom, wordsOf, writtenFrom, written}
 use Rattle.page.proofs.SpanLaws.{passed-elim}
-use Rattle.page.proofs.EachLaws.{addressOf, put-length, words-at, words-zero}
+use Rattle.page.proofs.EachLaws.{put-length}
 use Rattle.machine.specs.declared.Instruction.{Instruction}
-use Rattle.machine.specs.Machine.{Effect}
+use Rattle.machine.specs.Machine.{Effect, spanFrom}
 use Rattle.isa.specs.Effects.{Context, nothing, three}
 use Rattle.isa.specs.Words.{bitOperation, shiftOperation, jumpOperation, loadOperation, storeOperation}
 use Rattle.isa.specs.Integers.{integerOperation, logicalOperation}
 use Rattle.isa.specs.Floats.{floatOperation}
 use Rattle.isa.specs.Execute.{ordinary}
+use Rattle.ordinary.specs.Gathers.{complete, gathered, after, fromThird, fromSecond, fromFirst}
 use Rattle.ordinary.specs.Stores.{storedOne}
 
 -- ---- words read
 
-module _ (key group : ℕ) (g : List ℕ) (size : ℕ) (p : Span) (m : List ℕ) (j a : ℕ) where
-  -- word number j, got at its address
-  pub word-there : j < p .count → (j ≡ p .hole → ⊥) → j < 3 → (q : Got) → q ≡ gotAt m (lookup Read key group g size a) → (w : ℕ) → w ≡ wordOf q
-      → a ≡ addressOf p j → w ≡ getD (wordsOf key group g size p m) j 0
-  word-there l h b q e w f i =
-      f ∙ ap wordOf e ∙ ap (λ r. wordOf (gotAt m (lookup Read key group g size r))) i ∙ sym (words-at key group g size p m j l h (omega arith))
+-- by their places, from one to three of them
+module _ (m : List ℕ) where
+  one : (q : Place) → after (gotAt m q) (λ x. complete x 0 0) ≡ gathered (andThen q Clear) (set blank 0 (wordOf (gotAt m q)))
+  unfolding gathered after andThen gotAt wordOf
+  one (At p) = refl
+  one (Refused b) = refl
 
-  pub word-absent : (j < p .count → j ≡ p .hole) → a ≡ addressOf p j → 0 ≡ getD (wordsOf key group g size p m) j 0
-  word-absent h i = sym (words-zero key group g size p m j h)
+  two : (q r : Place)
+      → after (gotAt m q) (λ x. after (gotAt m r) (λ y. complete x y 0))
+      ≡ gathered (andThen q (andThen r Clear)) (set (set blank 0 (wordOf (gotAt m q))) 1 (wordOf (gotAt m r)))
+  unfolding gathered after andThen gotAt wordOf
+  two (At p) (At a) = refl
+  two (At p) (Refused b) = refl
+  two (Refused b) r = refl
 
--- the addresses of the second and third word
-pub third-address : (p : Span) (b c : ℕ) → b ≡ (p .start + p .stride) % 65536 → c ≡ (b + p .stride) % 65536 → c ≡ addressOf p 2
-unfolding wrapped
-third-address p b c e f = rw (f, e) refl
+  all-three : (q r s : Place)
+      → after (gotAt m q) (λ x. after (gotAt m r) (λ y. after (gotAt m s) (λ z. complete x y z)))
+      ≡ gathered (andThen q (andThen r (andThen s Clear)))
+      (set (set (set blank 0 (wordOf (gotAt m q))) 1 (wordOf (gotAt m r))) 2 (wordOf (gotAt m s)))
+  unfolding gathered after andThen gotAt wordOf
+  all-three (At p) (At a) (At c) = refl
+  all-three (At p) (At a) (Refused b) = refl
+  all-three (At p) (Refused b) s = refl
+  all-three (Refused b) r s = refl
+
+-- one by one, or all checked and then read
+pub gathered-few : (key group : ℕ) (g : List ℕ) (size : ℕ) (m : List ℕ) (a k : ℕ) → k ≤ 3
+    → fromFirst key group g size m k a ≡ gathered (checked key group g size (spanFrom a k) Read) (wordsOf key group g size (spanFrom a k) m)
+unfolding fromFirst fromSecond fromThird checked checkedFrom wordsOf readFrom passed gathered
+gathered-few key group g size m a zero h = refl
+gathered-few key group g size m a (suc zero) h = one m (lookup Read key group g size a)
+gathered-few key group g size m a (suc (suc zero)) h = two m (lookup Read key group g size a) (lookup Read key group g size (wrapped (a + 1)))
+gathered-few key group g size m a (suc (suc (suc zero))) h =
+    all-three m (lookup Read key group g size a) (lookup Read key group g size (wrapped (a + 1))) (lookup Read key group g size (wrapped (wrapped (a + 1) + 1)))
+gathered-few key group g size m a (suc (suc (suc (suc n)))) h = absurd (omega arith)
 
 -- ---- stores
 

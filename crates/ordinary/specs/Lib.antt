@@ -1,2 +1,3 @@
--- The definition of one store.
+-- The definitions of the words read, and of one store.
+pub mod Gathers
 pub mod Stores

@@ -2,16 +2,17 @@
 // a run asks for them.
 ghost use mathlib.Core.Path.{_≡_};
 ghost use Prim.Native.Nat.{_<_, _≤_};
-ghost use lib.ListN.{length, getD};
-ghost use Rattle.page.specs.Spans.{wordsOf, written};
-ghost use Rattle.page.proofs.EachLaws.{addressOf};
+ghost use lib.ListN.{length};
+ghost use Rattle.page.specs.Spans.{checked, wordsOf, written};
 ghost use Rattle.decode.specs.Forms.{operationOf};
 ghost use Rattle.machine.specs.State.{keyOf, groupOf, joined};
+ghost use Rattle.machine.specs.Machine.{spanFrom};
 ghost use Rattle.machine.specs.Step as spec;
 ghost use Rattle.isa.specs.Effects.{three};
 ghost use Rattle.isa.specs.Execute.{ordinary};
 ghost use Rattle.isa.specs.Mil1750.{contextOf};
 ghost use Rattle.effect.specs.Work.{context, worked};
+ghost use Rattle.ordinary.specs.Gathers.{complete, denied, gathered, fromThird, fromSecond};
 ghost use Rattle.ordinary.specs.Stores.{storedOne};
 use effect::Work;
 use effect::apply;
@@ -30,48 +31,116 @@ use interrupt::fields::with_cs;
 use machine::Core;
 use machine::Instruction;
 use page::Access;
+use page::Got;
 use page::Span;
 use page::read::read_word;
-use page::read::word_of;
 use page::write::write_word;
 use std::num::wrapping_add_u16;
 
-// The first three words of a span, 0 where it has fewer.
-pub struct Words {
+// The words read, 0 past their number, where all accesses are open; else the FT bit of the first refusal.
+pub struct Gathered {
+    pub clear: bool,
+    pub fault: u16,
     pub x: u16,
     pub y: u16,
     pub z: u16,
 }
 
-// Word number j of a span, whose address is a, and 0 where there is none.
-fn word_at(key: u16, group: u16, memory: &[u16], pages: &[u16], span: Span, j: u16, a: u16) -> u16
-    requires { ⌜ (length (now pages) ≡ 512) × (group < 16) × (j < 3) ⌝ }
-    ensures { λ r. ⌜ (a ≡ addressOf span j → r ≡ getD (wordsOf key group (now (pages .entry)) (length (now (memory .entry))) span (now (memory .entry))) j 0) ⌝ }
+// All words are there.
+fn complete(x: u16, y: u16, z: u16) -> Gathered
+    ensures { λ r. ⌜ r ≡ complete x y z ⌝ }
 {
-    if span.count <= j {
-        return 0;
+    Gathered {
+        clear: true,
+        fault: 0,
+        x,
+        y,
+        z,
     }
-    if j == span.hole {
-        return 0;
-    }
-    word_of(read_word(Access::Read, key, group, memory, pages, a))
 }
 
-// The first three words of a span, by the key and the address state of SW.
-pub fn first_words(sw: u16, memory: &[u16], pages: &[u16], span: Span) -> Words
-    requires { ⌜ length (now pages) ≡ 512 ⌝ }
-    ensures { λ r. ⌜ (r .x ≡ getD (wordsOf (keyOf sw) (groupOf sw) (now (pages .entry)) (length (now (memory .entry))) span (now (memory .entry))) 0 0)
-        × (r .y ≡ getD (wordsOf (keyOf sw) (groupOf sw) (now (pages .entry)) (length (now (memory .entry))) span (now (memory .entry))) 1 0)
-        × (r .z ≡ getD (wordsOf (keyOf sw) (groupOf sw) (now (pages .entry)) (length (now (memory .entry))) span (now (memory .entry))) 2 0) ⌝ }
+// A word is refused.
+fn denied(b: u16) -> Gathered
+    ensures { λ r. ⌜ r ≡ denied b ⌝ }
 {
+    Gathered {
+        clear: false,
+        fault: b,
+        x: 0,
+        y: 0,
+        z: 0,
+    }
+}
+
+// The third of k words, at the address c, after x and y.
+fn gather_third(
+    key: u16,
+    group: u16,
+    memory: &[u16],
+    pages: &[u16],
+    c: u16,
+    k: u16,
+    x: u16,
+    y: u16,
+) -> Gathered
+    requires { ⌜ (length (now pages) ≡ 512) × (group < 16) ⌝ }
+    ensures { λ r. ⌜ r ≡ fromThird key group (now (pages .entry)) (length (now (memory .entry))) (now (memory .entry)) k x y c ⌝ }
+{
+    if k <= 2 {
+        return complete(x, y, 0);
+    }
+    let got = read_word(Access::Read, key, group, memory, pages, c);
+    match got {
+        Got::Word(z) => complete(x, y, z),
+        Got::Missed(b) => denied(b),
+    }
+}
+
+// The second of k words, at the address a, after x, and what follows.
+fn gather_second(
+    key: u16,
+    group: u16,
+    memory: &[u16],
+    pages: &[u16],
+    a: u16,
+    k: u16,
+    x: u16,
+) -> Gathered
+    requires { ⌜ (length (now pages) ≡ 512) × (group < 16) ⌝ }
+    ensures { λ r. ⌜ r ≡ fromSecond key group (now (pages .entry)) (length (now (memory .entry))) (now (memory .entry)) k x a ⌝ }
+{
+    if k <= 1 {
+        return complete(x, 0, 0);
+    }
+    let got = read_word(Access::Read, key, group, memory, pages, a);
+    match got {
+        Got::Word(y) => {
+            let c = wrapping_add_u16(a, 1);
+            gather_third(key, group, memory, pages, c, k, x, y)
+        }
+        Got::Missed(b) => denied(b),
+    }
+}
+
+// At most three words from the address a on, by the key and the address state of SW: checked and read at once.
+pub fn gather(sw: u16, memory: &[u16], pages: &[u16], a: u16, k: u16) -> Gathered
+    requires { ⌜ (length (now pages) ≡ 512) × (k ≤ 3) ⌝ }
+    ensures { λ r. ⌜ r ≡ gathered (checked (keyOf sw) (groupOf sw) (now (pages .entry)) (length (now (memory .entry))) (spanFrom a k) Access.Read)
+        (wordsOf (keyOf sw) (groupOf sw) (now (pages .entry)) (length (now (memory .entry))) (spanFrom a k) (now (memory .entry))) ⌝ }
+{
+    if k == 0 {
+        return complete(0, 0, 0);
+    }
     let key = key_of(sw);
     let group = group_of(sw);
-    let b = wrapping_add_u16(span.start, span.stride);
-    let c = wrapping_add_u16(b, span.stride);
-    let x = word_at(key, group, memory, pages, span, 0, span.start);
-    let y = word_at(key, group, memory, pages, span, 1, b);
-    let z = word_at(key, group, memory, pages, span, 2, c);
-    Words { x, y, z }
+    let got = read_word(Access::Read, key, group, memory, pages, a);
+    match got {
+        Got::Word(x) => {
+            let second = wrapping_add_u16(a, 1);
+            gather_second(key, group, memory, pages, second, k, x)
+        }
+        Got::Missed(b) => denied(b),
+    }
 }
 
 // v is stored as word number j of a span, whose address is a, where there is one.
@@ -153,16 +222,18 @@ pub fn work(
     memory: &mut [u16],
     pages: &[u16],
     n: Instruction,
-    ws: Words,
+    x: u16,
+    y: u16,
+    z: u16,
     span: Span,
 ) -> Core
     requires { ⌜ (length (now pages) ≡ 512) × (span .count ≤ 3) ⌝ }
     ensures { λ r. ⌜ (joined r (now (regs .exit)) ≡ spec.affected (joined core (now (regs .entry)))
-        (ordinary (contextOf (joined core (now (regs .entry)))) n (ws .x) (ws .y) (ws .z) (operationOf (n .form))))
+        (ordinary (contextOf (joined core (now (regs .entry)))) n x y z (operationOf (n .form))))
         × (now (memory .exit) ≡ spec.stored (joined core (now (regs .entry))) (now (memory .entry)) (now (pages .entry))
-        (ordinary (contextOf (joined core (now (regs .entry)))) n (ws .x) (ws .y) (ws .z) (operationOf (n .form))) span) ⌝ }
+        (ordinary (contextOf (joined core (now (regs .entry)))) n x y z (operationOf (n .form))) span) ⌝ }
 {
-    let e = ordinary(regs, core.ic, core.sw, core.pi, n, ws.x, ws.y, ws.z);
+    let e = ordinary(regs, core.ic, core.sw, core.pi, n, x, y, z);
     apply(regs, e);
     store_words(core.sw, memory, pages, span, e.w0, e.w1, e.w2);
     let sw = with_cs(core.sw, e.cs);

@@ -38,6 +38,10 @@ pub fn look(access: Access, sw: u16, memory: &[u16], pages: &[u16], a: u16) -> G
 pub fn class_of(operation: u16) -> Class
     ensures { λ r. ⌜ r ≡ classOf operation ⌝ }
 {
+    // most operations come after these
+    if 35 < operation {
+        return Class::User;
+    }
     match operation {
         30 => Class::Executive,
         1 => Class::Supervisor,

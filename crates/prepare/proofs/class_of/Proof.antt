@@ -1,6 +1,7 @@
 -- `prepare::class_of` meets its contract. Assumes nothing.
 use mathlib.Core.Path.{_≡_, refl, sym, ap, _∙_}
 use borrow.Author.Tests.{eq-eqb, ne-eqb}
+use native.Mathlib.Omega.{arith}
 use Rattle.isa.specs.Mil1750.{classOf}
 use Rattle.decode.specs.Forms.{privilegedOperations}
 use borrow.Author.Needs.{needs}
@@ -11,19 +12,23 @@ use Rattle.prepare.proofs.class_of.Lts as lts
 
 returns : tie.Need-returns
 unfolding classOf privilegedOperations
-returns c = rw (c .match .keys1)
+returns c = rw (ne-eqb (c .before .args .operation) 30 (omega (arith, c .if1 .taken)), ne-eqb (c .before .args .operation) 1 (omega (arith, c .if1 .taken)), ne-eqb (c .before .args .operation) 35 (omega (arith, c .if1 .taken)))
 
 returns-2 : tie.Need-returns-2
 unfolding classOf privilegedOperations
-returns-2 c = rw (c .match .keys2)
+returns-2 c = rw (c .match .keys1)
 
 returns-3 : tie.Need-returns-3
 unfolding classOf privilegedOperations
-returns-3 c = rw (c .match .keys3)
+returns-3 c = rw (c .match .keys2)
 
 returns-4 : tie.Need-returns-4
 unfolding classOf privilegedOperations
-returns-4 c = rw (ne-eqb _ _ (c .match .rest .0 .0 .1), ne-eqb _ _ (c .match .rest .0 .1), ne-eqb _ _ (c .match .rest .1))
+returns-4 c = rw (c .match .keys3)
+
+returns-5 : tie.Need-returns-5
+unfolding classOf privilegedOperations
+returns-5 c = rw (ne-eqb _ _ (c .match .rest .0 .0 .1), ne-eqb _ _ (c .match .rest .0 .1), ne-eqb _ _ (c .match .rest .1))
 
 pub class-of-spec : {M : Type 1} → statement M
-class-of-spec = tie.close (tie.spec returns returns-2 returns-3 returns-4)
+class-of-spec = tie.close (tie.spec returns returns-2 returns-3 returns-4 returns-5)

@@ -1,42 +1,24 @@
 -- `cpu::act::carry` meets its contract. Assumes nothing.
 use mathlib.Core.Path.{_≡_, refl, sym, ap, _∙_}
-use Rattle.cpu.proofs.ActLaws.{carried-clear, carried-fault, failed}
+use Rattle.cpu.proofs.ActLaws.{no-block, words-read, carried-read, carried-denied, failed}
 use Rattle.machine.specs.State.{joined}
 use borrow.Author.Needs.{needs}
 use Rattle.cpu.proofs.act.carry.Statement.{statement}
 use Rattle.cpu.proofs.act.carry.Tie as tie
 use Rattle.cpu.proofs.act.carry.Reads as reads
 use Rattle.cpu.proofs.act.carry.Lts as lts
-use Rattle.access.proofs.accesses.reads.Reads as reads-reads
-use Rattle.access.proofs.accesses.writes.Reads as writes-reads
-use Rattle.cpu.proofs.act.operate.Reads as operate-reads
-use Rattle.cpu.proofs.act.verify.Reads as verify-reads
-use Rattle.interrupt.proofs.fields.advance.Reads as advance-reads
-use Rattle.interrupt.proofs.time.fault.Reads as fault-reads
+use Rattle.access.proofs.accesses.few_reads.Reads as few-reads-reads
+use Rattle.block.proofs.is_block.Reads as is-block-reads
+use Rattle.cpu.proofs.act.carry_block.Reads as carry-block-reads
+use Rattle.cpu.proofs.act.proceed.Reads as proceed-reads
+use Rattle.cpu.proofs.act.refuse.Reads as refuse-reads
+use Rattle.ordinary.proofs.gather.Reads as gather-reads
 
-reads-requires : tie.Need-reads-requires
-reads-requires c κs = search needs
+is-block-requires : tie.Need-is-block-requires
+is-block-requires c κs = search needs
 
-writes-requires : tie.Need-writes-requires
-writes-requires c κs = search needs
-
-verify-requires : tie.Need-verify-requires
-verify-requires c κs = search needs
-
-enum-told : tie.Need-enum-told
-enum-told c = search needs
-
-operate-requires : tie.Need-operate-requires
-operate-requires c κs = search needs
-
-enum-known-verdict : tie.Need-enum-known-verdict
-enum-known-verdict c = search needs
-
-advance-requires : tie.Need-advance-requires
-advance-requires c κs = search needs
-
-fault-requires : tie.Need-fault-requires
-fault-requires c κs = search needs
+carry-block-requires : tie.Need-carry-block-requires
+carry-block-requires c κs = (c .before .before .before .before .before .before .before .before .before .pre .0, sym (c .before .before .before .before .is-block .ensures) ∙ c .before .before .before .if1 .taken)
 
 same-length : tie.Need-same-length
 same-length c = search needs
@@ -44,33 +26,59 @@ same-length c = search needs
 same-length-2 : tie.Need-same-length-2
 same-length-2 c = search needs
 
+returns : tie.Need-returns
+returns c = c .before .before .carry-block .ensures (c .before .before .before .before .before .before .before .before .before .before .before .before .args .ports .now)
+
+few-reads-requires : tie.Need-few-reads-requires
+few-reads-requires c κs = search needs
+
+gather-requires : tie.Need-gather-requires
+gather-requires c κs = (c .before .before .before .before .before .before .before .before .before .before .pre .0, c .before .before .few-reads .ensures .1)
+
+proceed-requires : tie.Need-proceed-requires
+proceed-requires c κs = (c .before .before .before .before .before .before .before .before .before .before .before .before .before .before .before .before .pre .0, c .before .before .before .before .before .before .before .before .before .before .before .before .before .before .before .before .pre .1, sym (c .before .before .before .before .before .before .before .before .before .before .before .is-block .ensures) ∙ c .before .before .before .before .before .before .before .before .before .before .if1 .left, words-read (joined (c .before .before .before .before .before .before .before .before .before .before .before .before .before .before .before .before .args .core) (c .before .before .before .before .before .before .before .before .before .before .before .before .before .before .before .before .args .regs .now)) (c .before .before .before .before .before .before .before .before .before .before .before .before .before .before .before .before .args .memory .now) (c .before .before .before .before .before .before .before .before .before .before .before .before .before .before .before .before .args .pages .now) (c .before .before .before .before .before .before .before .before .before .before .before .before .before .before .before .before .args .n) _ _ (c .before .before .before .before .before .before .before .before .few-reads .ensures .2 (no-block _ (sym (c .before .before .before .before .before .before .before .before .before .before .before .is-block .ensures) ∙ c .before .before .before .before .before .before .before .before .before .before .if1 .left) .0) (no-block _ (sym (c .before .before .before .before .before .before .before .before .before .before .before .is-block .ensures) ∙ c .before .before .before .before .before .before .before .before .before .before .if1 .left) .1) (no-block _ (sym (c .before .before .before .before .before .before .before .before .before .before .before .is-block .ensures) ∙ c .before .before .before .before .before .before .before .before .before .before .if1 .left) .2)) (c .before .before .before .before .before .before .before .before .few-reads .ensures .0) (c .before .before .before .before .before .gather .ensures) (c .before .before .before .before .if2 .taken))
+
 same-length-3 : tie.Need-same-length-3
 same-length-3 c = search needs
-
-returns : tie.Need-returns
-returns c = rw (← carried-clear (joined (c .before .before .before .before .before .before .before .before .before .before .before .before .before .before .before .before .before .before .before .before .before .before .args .core) (c .before .before .before .before .before .before .before .before .before .before .before .before .before .before .before .before .before .before .before .before .before .before .args .regs .now)) (c .before .before .before .before .before .before .before .before .before .before .before .before .before .before .before .before .before .before .before .before .before .before .args .memory .now) (c .before .before .before .before .before .before .before .before .before .before .before .before .before .before .before .before .before .before .before .before .before .before .args .pages .now) (c .before .before .before .before .before .before .before .before .before .before .before .before .before .before .before .before .before .before .before .before .before .before .args .ports .now) (c .before .before .before .before .before .before .before .before .before .before .before .before .before .before .before .before .before .before .before .before .before .before .args .n) _ _ _ (c .before .before .before .before .before .before .before .before .before .before .before .before .before .before .before .before .before .reads .ensures .0) (c .before .before .before .before .before .before .before .before .before .before .before .before .before .before .before .writes .ensures .0) (c .before .before .before .before .before .before .before .before .before .before .before .before .before .verify .ensures) (c .before .before .before .before .before .before .before .before .before .before .before .enum-told .given .1)) (c .before .before .before .before .before .before .operate .ensures)
 
 same-length-4 : tie.Need-same-length-4
 same-length-4 c = search needs
 
+same-length-5 : tie.Need-same-length-5
+same-length-5 c = search needs
+
 returns-2 : tie.Need-returns-2
-returns-2 c = rw (← carried-fault (joined (c .before .before .before .before .before .before .before .before .before .before .before .before .before .before .before .args .core) (c .before .before .before .before .before .before .before .before .before .before .before .before .before .before .before .args .regs .now)) (c .before .before .before .before .before .before .before .before .before .before .before .before .before .before .before .args .memory .now) (c .before .before .before .before .before .before .before .before .before .before .before .before .before .before .before .args .pages .now) (c .before .before .before .before .before .before .before .before .before .before .before .before .before .before .before .args .ports .now) (c .before .before .before .before .before .before .before .before .before .before .before .before .before .before .before .args .n) _ _ _ (c .before .before .before .before .before .before .before .before .before .before .reads .ensures .0) (c .before .before .before .before .before .before .before .before .writes .ensures .0) (c .before .before .before .before .before .before .verify .ensures) _ _ (c .before .before .before .before .verdict .given .1) (c .before .advance .ensures)) (failed (c .before .before .before .before .before .before .before .before .before .before .before .before .before .before .before .args .core) _ (c .before .before .before .before .before .before .before .before .before .before .before .before .before .before .before .args .regs .now) (c .before .before .before .before .before .before .before .before .before .before .before .before .before .before .before .args .memory .now) (c .before .before .before .before .before .before .before .before .before .before .before .before .before .before .before .args .pages .now) (c .before .before .before .before .before .before .before .before .before .before .before .before .before .before .before .args .ports .now) _ _ (c .fault .ensures))
+returns-2 c = rw (← carried-read (joined (c .before .before .before .before .before .before .before .before .before .before .before .before .before .before .before .before .before .before .before .before .before .before .before .args .core) (c .before .before .before .before .before .before .before .before .before .before .before .before .before .before .before .before .before .before .before .before .before .before .before .args .regs .now)) (c .before .before .before .before .before .before .before .before .before .before .before .before .before .before .before .before .before .before .before .before .before .before .before .args .memory .now) (c .before .before .before .before .before .before .before .before .before .before .before .before .before .before .before .before .before .before .before .before .before .before .before .args .pages .now) (c .before .before .before .before .before .before .before .before .before .before .before .before .before .before .before .before .before .before .before .before .before .before .before .args .n) _ _ (c .before .before .before .before .before .before .before .before .before .before .before .before .before .before .before .few-reads .ensures .2 (no-block _ (sym (c .before .before .before .before .before .before .before .before .before .before .before .before .before .before .before .before .before .before .is-block .ensures) ∙ c .before .before .before .before .before .before .before .before .before .before .before .before .before .before .before .before .before .if1 .left) .0) (no-block _ (sym (c .before .before .before .before .before .before .before .before .before .before .before .before .before .before .before .before .before .before .is-block .ensures) ∙ c .before .before .before .before .before .before .before .before .before .before .before .before .before .before .before .before .before .if1 .left) .1) (no-block _ (sym (c .before .before .before .before .before .before .before .before .before .before .before .before .before .before .before .before .before .before .is-block .ensures) ∙ c .before .before .before .before .before .before .before .before .before .before .before .before .before .before .before .before .before .if1 .left) .2)) (c .before .before .before .before .before .before .before .before .before .before .before .before .before .before .before .few-reads .ensures .0) (c .before .before .before .before .before .before .before .before .before .before .before .before .gather .ensures) (c .before .before .before .before .before .before .before .before .before .before .before .before .before .before .before .before .before .before .before .before .before .before .before .args .ports .now) (c .before .before .before .before .before .before .before .before .before .before .before .if2 .taken)) (c .before .before .before .before .before .before .proceed .ensures)
+
+refuse-requires : tie.Need-refuse-requires
+refuse-requires c κs = search needs
+
+same-length-6 : tie.Need-same-length-6
+same-length-6 c = search needs
+
+same-length-7 : tie.Need-same-length-7
+same-length-7 c = search needs
+
+returns-3 : tie.Need-returns-3
+returns-3 c = rw (← carried-denied (joined (c .before .before .before .before .before .before .before .before .before .before .before .before .before .args .core) (c .before .before .before .before .before .before .before .before .before .before .before .before .before .args .regs .now)) (c .before .before .before .before .before .before .before .before .before .before .before .before .before .args .memory .now) (c .before .before .before .before .before .before .before .before .before .before .before .before .before .args .pages .now) (c .before .before .before .before .before .before .before .before .before .before .before .before .before .args .n) _ _ (c .before .before .before .before .before .few-reads .ensures .2 (no-block _ (sym (c .before .before .before .before .before .before .before .before .is-block .ensures) ∙ c .before .before .before .before .before .before .before .if1 .left) .0) (no-block _ (sym (c .before .before .before .before .before .before .before .before .is-block .ensures) ∙ c .before .before .before .before .before .before .before .if1 .left) .1) (no-block _ (sym (c .before .before .before .before .before .before .before .before .is-block .ensures) ∙ c .before .before .before .before .before .before .before .if1 .left) .2)) (c .before .before .before .before .before .few-reads .ensures .0) (c .before .before .gather .ensures) (c .before .before .before .before .before .before .before .before .before .before .before .before .before .args .ports .now) (c .before .if2 .left)) (failed (c .before .before .before .before .before .before .before .before .before .before .before .before .before .args .core) _ (c .before .before .before .before .before .before .before .before .before .before .before .before .before .args .regs .now) (c .before .before .before .before .before .before .before .before .before .before .before .before .before .args .memory .now) (c .before .before .before .before .before .before .before .before .before .before .before .before .before .args .pages .now) (c .before .before .before .before .before .before .before .before .before .before .before .before .before .args .ports .now) _ _ (c .refuse .ensures))
 
 pub carry-spec : {M : Type 1} → statement M
 carry-spec =
     tie.close
     (tie.spec
-    reads-requires
-    writes-requires
-    verify-requires
-    enum-told
-    operate-requires
-    enum-known-verdict
-    advance-requires
-    fault-requires
+    is-block-requires
+    carry-block-requires
     same-length
     same-length-2
-    same-length-3
     returns
+    few-reads-requires
+    gather-requires
+    proceed-requires
+    same-length-3
     same-length-4
-    returns-2)
+    same-length-5
+    returns-2
+    refuse-requires
+    same-length-6
+    same-length-7
+    returns-3)

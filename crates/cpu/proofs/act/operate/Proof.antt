@@ -1,7 +1,10 @@
 -- `cpu::act::operate` meets its contract. Assumes nothing.
 use mathlib.Core.Path.{_≡_, refl, sym, ap, _∙_}
-use Rattle.cpu.proofs.ActLaws.{became-worked}
-use Rattle.machine.specs.State.{joined}
+use Rattle.cpu.proofs.ActLaws.{few-written, worked-ordinary, first-three, became-worked}
+use Rattle.machine.specs.State.{joined, keyOf, groupOf}
+use lib.ListN.{length}
+use Rattle.page.specs.Spans.{wordsOf}
+use Rattle.isa.specs.Accesses.{readsOf}
 use Rattle.machine.specs.Instructions.{operated}
 use Rattle.isa.specs.Mil1750.{mil1750}
 use borrow.Author.Needs.{needs}
@@ -11,7 +14,7 @@ use Rattle.cpu.proofs.act.operate.Reads as reads
 use Rattle.cpu.proofs.act.operate.Lts as lts
 use Rattle.cpu.proofs.act.call.Reads as call-reads
 use Rattle.cpu.proofs.act.govern.Reads as govern-reads
-use Rattle.cpu.proofs.act.user.Reads as user-reads
+use Rattle.ordinary.proofs.work.Reads as work-reads
 use Rattle.prepare.proofs.class_of.Reads as class-of-reads
 
 class-of-requires : tie.Need-class-of-requires
@@ -20,8 +23,8 @@ class-of-requires c κs = search needs
 enum-told : tie.Need-enum-told
 enum-told c = search needs
 
-user-requires : tie.Need-user-requires
-user-requires c κs = search needs
+work-requires : tie.Need-work-requires
+work-requires c κs = (c .before .before .before .before .before .before .before .before .before .before .pre .0, rw (c .before .before .before .before .before .before .before .before .before .before .pre .4) (few-written (c .before .before .before .before .before .before .before .before .before .before .args .regs .now) (c .before .before .before .before .before .before .before .before .before .before .args .n) (c .before .before .before .before .before .before .before .before .before .before .pre .2)))
 
 enum-told-2 : tie.Need-enum-told-2
 enum-told-2 c = search needs
@@ -43,7 +46,7 @@ same-length-2 c = search needs
 
 returns : tie.Need-returns
 unfolding operated mil1750
-returns c = rw (← c .before .before .before .before .before .before .before .before .class-of .ensures, c .before .before .before .before .before .before .enum-told .given .1) (became-worked (joined (c .before .before .before .before .before .before .before .before .before .before .before .before .before .args .core) (c .before .before .before .before .before .before .before .before .before .before .before .before .before .args .regs .now)) (c .before .before .before .before .before .before .before .before .before .before .before .before .before .args .memory .now) (c .before .before .before .before .before .before .before .before .before .before .before .before .before .args .pages .now) (c .before .before .before .before .before .before .before .before .before .before .before .before .before .args .ports .now) (c .before .before .before .before .before .before .before .before .before .before .before .before .before .args .n) _ _ _ (c .before .before .user .ensures))
+returns c = rw (← c .before .before .before .before .before .before .before .before .class-of .ensures, c .before .before .before .before .before .before .enum-told .given .1) (became-worked (joined (c .before .before .before .before .before .before .before .before .before .before .before .before .before .args .core) (c .before .before .before .before .before .before .before .before .before .before .before .before .before .args .regs .now)) (c .before .before .before .before .before .before .before .before .before .before .before .before .before .args .memory .now) (c .before .before .before .before .before .before .before .before .before .before .before .before .before .args .pages .now) (c .before .before .before .before .before .before .before .before .before .before .before .before .before .args .ports .now) (c .before .before .before .before .before .before .before .before .before .before .before .before .before .args .n) _ _ _ (worked-ordinary (joined (c .before .before .before .before .before .before .before .before .before .before .before .before .before .args .core) (c .before .before .before .before .before .before .before .before .before .before .before .before .before .args .regs .now)) (c .before .before .before .before .before .before .before .before .before .before .before .before .before .args .memory .now) (c .before .before .before .before .before .before .before .before .before .before .before .before .before .args .pages .now) (c .before .before .before .before .before .before .before .before .before .before .before .before .before .args .n) _ _ _ _ (c .before .before .before .before .before .before .before .before .before .before .before .before .before .args .to) _ _ (c .before .before .before .before .before .before .before .before .before .before .before .before .before .pre .2) (c .before .before .before .before .before .before .before .before .before .before .before .before .before .pre .3) (c .before .before .before .before .before .before .before .before .before .before .before .before .before .pre .4) (c .before .before .work .ensures .0) (c .before .before .work .ensures .1)))
 
 same-length-3 : tie.Need-same-length-3
 same-length-3 c = search needs
@@ -51,18 +54,15 @@ same-length-3 c = search needs
 same-length-4 : tie.Need-same-length-4
 same-length-4 c = search needs
 
+returns-2 : tie.Need-returns-2
+unfolding operated mil1750
+returns-2 c = rw (← c .before .before .before .before .before .before .before .before .before .before .class-of .ensures, c .before .before .before .before .before .before .before .before .enum-told2 .given .1) (rw (← first-three (joined (c .before .before .before .before .before .before .before .before .before .before .before .before .before .before .before .args .core) (c .before .before .before .before .before .before .before .before .before .before .before .before .before .before .before .args .regs .now)) (c .before .before .before .before .before .before .before .before .before .before .before .before .before .before .before .args .pages .now) (c .before .before .before .before .before .before .before .before .before .before .before .before .before .before .before .args .ports .now) (c .before .before .before .before .before .before .before .before .before .before .before .before .before .before .before .args .n) (wordsOf (keyOf (c .before .before .before .before .before .before .before .before .before .before .before .before .before .before .before .args .core .sw)) (groupOf (c .before .before .before .before .before .before .before .before .before .before .before .before .before .before .before .args .core .sw)) (c .before .before .before .before .before .before .before .before .before .before .before .before .before .before .before .args .pages .now) (length (c .before .before .before .before .before .before .before .before .before .before .before .before .before .before .before .args .memory .now)) (readsOf (c .before .before .before .before .before .before .before .before .before .before .before .before .before .before .before .args .regs .now) (c .before .before .before .before .before .before .before .before .before .before .before .before .before .before .before .args .n)) (c .before .before .before .before .before .before .before .before .before .before .before .before .before .before .before .args .memory .now)) _ _ _ (c .before .before .before .before .before .before .before .before .before .before .before .before .before .before .before .pre .3)) (c .before .before .before .before .govern .ensures (c .before .before .before .before .before .before .before .before .before .before .before .before .before .before .before .args .memory .now)))
+
 same-length-5 : tie.Need-same-length-5
 same-length-5 c = search needs
 
-returns-2 : tie.Need-returns-2
-unfolding operated mil1750
-returns-2 c = rw (← c .before .before .before .before .before .before .before .before .before .before .before .class-of .ensures, c .before .before .before .before .before .before .before .before .before .enum-told2 .given .1) (rw (← c .before .before .before .before .before .before .before .before .before .before .before .before .before .before .before .before .pre .2) (c .before .before .before .before .govern .ensures))
-
 same-length-6 : tie.Need-same-length-6
 same-length-6 c = search needs
-
-same-length-7 : tie.Need-same-length-7
-same-length-7 c = search needs
 
 returns-3 : tie.Need-returns-3
 unfolding operated mil1750
@@ -74,7 +74,7 @@ operate-spec =
     (tie.spec
     class-of-requires
     enum-told
-    user-requires
+    work-requires
     enum-told-2
     govern-requires
     enum-told-3
@@ -84,8 +84,7 @@ operate-spec =
     returns
     same-length-3
     same-length-4
-    same-length-5
     returns-2
+    same-length-5
     same-length-6
-    same-length-7
     returns-3)

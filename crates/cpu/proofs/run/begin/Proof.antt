@@ -19,11 +19,11 @@ use Rattle.interrupt.proofs.vector.vector.Reads as vector-reads
 choose-requires : tie.Need-choose-requires
 choose-requires c κs = search needs
 
-release-requires : tie.Need-release-requires
-release-requires c κs = search needs
-
 vector-requires : tie.Need-vector-requires
 vector-requires c κs = search needs
+
+release-requires : tie.Need-release-requires
+release-requires c κs = search needs
 
 enter-requires : tie.Need-enter-requires
 enter-requires c κs = search needs
@@ -36,7 +36,10 @@ same-length-2 c = search needs
 
 returns : tie.Need-returns
 unfolding perform
-returns c = rw (← enters mil1750 (machine (joined (c .before .before .before .before .before .before .before .before .before .before .before .before .before .before .args .core) (c .before .before .before .before .before .before .before .before .before .before .before .before .before .before .args .regs .now)) (c .before .before .before .before .before .before .before .before .before .before .before .before .before .before .args .memory .now) (c .before .before .before .before .before .before .before .before .before .before .before .before .before .before .args .pages .now) (c .before .before .before .before .before .before .before .before .before .before .before .before .before .before .args .ports .now)) _ (c .before .before .before .before .before .before .before .before .before .before .choose .ensures (joined (c .before .before .before .before .before .before .before .before .before .before .before .before .before .before .args .core) (c .before .before .before .before .before .before .before .before .before .before .before .before .before .before .args .regs .now)) refl refl refl refl) (c .before .before .before .before .before .before .before .before .if1 .taken), ← c .before .before .before .before .before .before .before .before .before .release .ensures (c .before .before .before .before .before .before .before .before .before .before .before .before .before .before .args .regs .now), ← c .before .before .before .before .before .vector .ensures) (c .before .before .enter .ensures (c .before .before .before .before .before .before .before .before .before .before .before .before .before .before .args .regs .now) (c .before .before .before .before .before .before .before .before .before .before .before .before .before .before .args .ports .now))
+returns c = rw (← enters mil1750 (machine (joined (c .before .before .before .before .before .before .before .before .before .before .before .before .before .before .args .core) (c .before .before .before .before .before .before .before .before .before .before .before .before .before .before .args .regs .now)) (c .before .before .before .before .before .before .before .before .before .before .before .before .before .before .args .memory .now) (c .before .before .before .before .before .before .before .before .before .before .before .before .before .before .args .pages .now) (c .before .before .before .before .before .before .before .before .before .before .before .before .before .before .args .ports .now)) _ (c .before .before .before .before .before .before .before .before .before .before .choose .ensures (joined (c .before .before .before .before .before .before .before .before .before .before .before .before .before .before .args .core) (c .before .before .before .before .before .before .before .before .before .before .before .before .before .before .args .regs .now)) refl refl refl refl) (c .before .before .before .before .before .before .before .before .before .if1 .taken), ← c .before .before .before .before .before .release .ensures (c .before .before .before .before .before .before .before .before .before .before .before .before .before .before .args .regs .now), ← c .before .before .before .before .before .before .vector .ensures) (c .before .before .enter .ensures (c .before .before .before .before .before .before .before .before .before .before .before .before .before .before .args .regs .now) (c .before .before .before .before .before .before .before .before .before .before .before .before .before .before .args .ports .now))
+
+release-requires-2 : tie.Need-release-requires-2
+release-requires-2 c κs = search needs
 
 instruct-requires : tie.Need-instruct-requires
 instruct-requires c κs = search needs
@@ -52,19 +55,20 @@ same-length-5 c = search needs
 
 returns-2 : tie.Need-returns-2
 unfolding perform
-returns-2 c = rw (← instructs mil1750 (machine (joined (c .before .before .before .before .before .before .before .before .before .before .before .before .before .before .before .before .before .args .core) (c .before .before .before .before .before .before .before .before .before .before .before .before .before .before .before .before .before .args .regs .now)) (c .before .before .before .before .before .before .before .before .before .before .before .before .before .before .before .before .before .args .memory .now) (c .before .before .before .before .before .before .before .before .before .before .before .before .before .before .before .before .before .args .pages .now) (c .before .before .before .before .before .before .before .before .before .before .before .before .before .before .before .before .before .args .ports .now)) _ (c .before .before .before .before .before .before .before .before .before .before .before .before .before .choose .ensures (joined (c .before .before .before .before .before .before .before .before .before .before .before .before .before .before .before .before .before .args .core) (c .before .before .before .before .before .before .before .before .before .before .before .before .before .before .before .before .before .args .regs .now)) refl refl refl refl) (c .before .before .before .before .before .before .before .before .before .before .before .if1 .left), ← c .before .before .before .before .before .before .before .before .before .before .before .before .release .ensures (c .before .before .before .before .before .before .before .before .before .before .before .before .before .before .before .before .before .args .regs .now)) (c .before .before .before .before .before .before .instruct .ensures)
+returns-2 c = rw (← instructs mil1750 (machine (joined (c .before .before .before .before .before .before .before .before .before .before .before .before .before .before .before .before .before .args .core) (c .before .before .before .before .before .before .before .before .before .before .before .before .before .before .before .before .before .args .regs .now)) (c .before .before .before .before .before .before .before .before .before .before .before .before .before .before .before .before .before .args .memory .now) (c .before .before .before .before .before .before .before .before .before .before .before .before .before .before .before .before .before .args .pages .now) (c .before .before .before .before .before .before .before .before .before .before .before .before .before .before .before .before .before .args .ports .now)) _ (c .before .before .before .before .before .before .before .before .before .before .before .before .before .choose .ensures (joined (c .before .before .before .before .before .before .before .before .before .before .before .before .before .before .before .before .before .args .core) (c .before .before .before .before .before .before .before .before .before .before .before .before .before .before .before .before .before .args .regs .now)) refl refl refl refl) (c .before .before .before .before .before .before .before .before .before .before .before .before .if1 .left), ← c .before .before .before .before .before .before .before .before .before .before .before .release2 .ensures (c .before .before .before .before .before .before .before .before .before .before .before .before .before .before .before .before .before .args .regs .now)) (c .before .before .before .before .before .before .instruct .ensures)
 
 pub begin-spec : {M : Type 1} → statement M
 begin-spec =
     tie.close
     (tie.spec
     choose-requires
-    release-requires
     vector-requires
+    release-requires
     enter-requires
     same-length
     same-length-2
     returns
+    release-requires-2
     instruct-requires
     same-length-3
     same-length-4

@@ -1,0 +1,15 @@
+-- `ordinary::complete` meets its contract. Assumes nothing.
+use mathlib.Core.Path.{_≡_, refl, sym, ap, _∙_}
+use Rattle.ordinary.specs.Gathers.{complete}
+use borrow.Author.Needs.{needs}
+use Rattle.ordinary.proofs.complete.Statement.{statement}
+use Rattle.ordinary.proofs.complete.Tie as tie
+use Rattle.ordinary.proofs.complete.Reads as reads
+use Rattle.ordinary.proofs.complete.Lts as lts
+
+returns : tie.Need-returns
+unfolding complete
+returns c = refl
+
+pub complete-spec : {M : Type 1} → statement M
+complete-spec = tie.close (tie.spec returns)
