@@ -30,7 +30,7 @@ LISTS = '(@args .memory .now) (@args .pages .now) (@args .ports .now)'
 MACHINE_AT = '(machine %s %s)' % (JOINED, LISTS)
 VERDICT = '_ _ _ (@reads .ensures .0) (@writes .ensures .0) (@verify .ensures)'
 WORDS = '(wordsOf (keyOf (@args .core .sw)) (groupOf (@args .core .sw)) (@args .pages .now) (length (@args .memory .now)) %s (@args .memory .now))'
-CLASS = 'rw (← @class-of .ensures, @%s .given .1) '
+CLASS = 'rw (← @class-of .ensures, @%s .given .1, @%s .ensures .0) '
 CHECKED = '← @key-of .ensures .0, ← @group-of .ensures .0, ← @check-span .ensures, @%s .given .1'
 # of the operations on blocks, 40 44 47 50 54, those of these places are not the one at hand
 def others(fact, places):
@@ -38,9 +38,19 @@ def others(fact, places):
 
 
 PLAIN = '(sym (@is-block .ensures) ∙ @if1 .left)'
-FROM = '%s (@args .memory .now) (@args .pages .now) (@args .n) _ _ (@few-reads .ensures .2 %s) (@few-reads .ensures .0) (@gather .ensures)' % (JOINED, others(PLAIN, (0, 1, 2)))
+FROM = '%s (@args .memory .now) (@args .pages .now) (@args .n) _ _ (@Start .pre .2) (@Start .pre .3) _ _ (@few-reads .ensures .2 %s) (@few-reads .ensures .0) (@gather .ensures)' % (JOINED, others(PLAIN, (0, 1, 2)))
 TO = '@few-writes .ensures .2 ' + others('(@Start .pre .2)', (2, 3, 4))
-STORES = '%s %s (@args .n) _ _ _ _ (@key-of .ensures .0) (@group-of .ensures .0) (%s) (@check-span .ensures)' % (JOINED, LISTS, TO)
+STORES = '%s %s (@args .n) _ _ _ _ (@Start .pre .4) (@Start .pre .5) (%s) (@check-span .ensures)' % (JOINED, LISTS, TO)
+# settled after a user's operation, by the call that gave its core; and never after anything else
+def settled(effect):
+    return 'settled-by (@args .core) _ _ (@args .regs .now) _ _ _ (@weighed .ensures .0) (@weighed .ensures .1) (@%s)' % effect
+
+
+def never(times=''):
+    return 'λ h. absurd (false≢true (sym (@unsettled%s .ensures .1) ∙ h))' % times
+
+
+NEVER = 'mathlib.Core.Bool.{false≢true}'
 ASKED = ['not-false (@whole .result) (@if1 .left)', 'eq-eqb _ _ (@if2 .left)', 'eq-eqb _ _ (@if3 .left)', 'le-leb _ _ (@if4 .left)', 'le-leb _ _ (@if5 .left)']
 
 
@@ -53,41 +63,47 @@ A = {
     'act/verify': by(STAGES + ' both', use=[STATE + '{keyOf, groupOf}'],
         returns='rw (%s) (@check-span2 .ensures)' % (CHECKED % 'enum-told'), returns_2='rw (%s) refl' % (CHECKED % 'verdict')),
     'act/refuse': by(returns='λ regs. rw (← @advance .ensures) (@fault .ensures regs)'),
-    'act/carry_block': by(STAGES + ' operated', ISA + ' mil1750', use=[ACT + '{carried-clear, carried-fault, failed, became-worked, block-user}', STATE + '{joined}'],
+    'act/weighed': by(returns='(refl, refl)'),
+    'act/unsettled': by(returns='(refl, refl)'),
+    'act/carry_block': by(STAGES + ' operated', ISA + ' mil1750', use=[NEVER, ACT + '{carried-clear, carried-fault, failed, became-worked, block-user, settled-by}', STATE + '{joined}'],
         block_requires='(@Start .pre .0, @Start .pre .1)',
-        returns='λ ports. rw (← carried-clear %s (@args .memory .now) (@args .pages .now) ports (@args .n) %s (@enum-told .given .1), block-user _ (@Start .pre .1)) '
-            '(became-worked %s (@args .memory .now) (@args .pages .now) ports (@args .n) _ _ _ (@block .ensures))' % (JOINED, VERDICT, JOINED),
-        returns_2='λ ports. rw (← carried-fault %s (@args .memory .now) (@args .pages .now) ports (@args .n) %s _ (@verdict .given .1)) '
-            '(failed (@args .core) _ (@args .regs .now) (@args .memory .now) (@args .pages .now) ports _ _ (@refuse .ensures))' % (JOINED, VERDICT)),
+        returns='(λ ports. rw (@weighed .ensures .0, ← carried-clear %s (@args .memory .now) (@args .pages .now) ports (@args .n) %s (@enum-told .given .1), block-user _ (@Start .pre .1)) '
+            '(became-worked %s (@args .memory .now) (@args .pages .now) ports (@args .n) _ _ _ (@block .ensures)), %s)' % (JOINED, VERDICT, JOINED, settled('block .ensures .state-is')),
+        returns_2='(λ ports. rw (@unsettled .ensures .0, ← carried-fault %s (@args .memory .now) (@args .pages .now) ports (@args .n) %s _ (@verdict .given .1)) '
+            '(failed (@args .core) _ (@args .regs .now) (@args .memory .now) (@args .pages .now) ports _ _ (@refuse .ensures)), %s)' % (JOINED, VERDICT, never())),
     'act/govern': by(use=[ACT + '{governed-done, governed-refused}']),
     'act/call': by(STEP + ' perform', STATE + ' withIc advanced',
         returns='λ regs ports. rw (← @call-vector .ensures, ← @advance .ensures) (@enter .ensures regs ports)'),
-    'act/operate': by(STAGES + ' operated', ISA + ' mil1750', use=[ACT + '{few-written, worked-ordinary, first-three, became-worked}', STATE + '{joined, keyOf, groupOf}', LENGTH,
+    'act/operate': by(STAGES + ' operated', ISA + ' mil1750', use=[NEVER, ACT + '{few-written, worked-ordinary, first-three, became-worked, settled-by}', STATE + '{joined, keyOf, groupOf}', LENGTH,
             'Rattle.page.specs.Spans.{wordsOf}', 'Rattle.isa.specs.Accesses.{readsOf}'],
         work_requires='(@Start .pre .0, rw (@Start .pre .4) (few-written (@args .regs .now) (@args .n) (@Start .pre .2)))',
-        returns=CLASS % 'enum-told' + '(became-worked %s %s (@args .n) _ _ _ (worked-ordinary %s (@args .memory .now) (@args .pages .now) (@args .n) _ _ _ _ (@args .to) _ _ '
-            '(@Start .pre .2) (@Start .pre .3) (@Start .pre .4) (@work .ensures .0) (@work .ensures .1)))' % (JOINED, LISTS, JOINED),
-        returns_2=CLASS % 'enum-told2' + '(rw (← first-three %s (@args .pages .now) (@args .ports .now) (@args .n) %s _ _ _ (@Start .pre .3)) (@govern .ensures (@args .memory .now)))' % (JOINED, WORDS % '(readsOf (@args .regs .now) (@args .n))'),
-        returns_3=CLASS % 'enum-told3' + '(@call .ensures (@args .regs .now) (@args .ports .now))'),
-    'act/proceed': by(use=[ACT + '{no-block, accessed-clear, accessed-fault, failed}', STATE + '{joined}'],
+        returns='(' + CLASS % ('enum-told', 'weighed') + '(became-worked %s %s (@args .n) _ _ _ (worked-ordinary %s (@args .memory .now) (@args .pages .now) (@args .n) _ _ _ _ (@args .to) _ _ '
+            '(@Start .pre .2) (@Start .pre .3) (@Start .pre .4) (@work .ensures .0) (@work .ensures .1))), %s)' % (JOINED, LISTS, JOINED, settled('work .ensures .0')),
+        returns_2='(' + CLASS % ('enum-told2', 'unsettled') + '(rw (← first-three %s (@args .pages .now) (@args .ports .now) (@args .n) %s _ _ _ (@Start .pre .3)) (@govern .ensures (@args .memory .now))), %s)'
+            % (JOINED, WORDS % '(readsOf (@args .regs .now) (@args .n))', never()),
+        returns_3='(' + CLASS % ('enum-told3', 'unsettled2') + '(@call .ensures (@args .regs .now) (@args .ports .now)), %s)' % never('2')),
+    'act/proceed': by(use=[NEVER, ACT + '{no-block, accessed-clear, accessed-fault, failed}', STATE + '{joined}'],
+        check_span_requires='(@Start .pre .0, @Start .pre .6)',
         operate_requires='(@Start .pre .0, @Start .pre .1, @Start .pre .2, @Start .pre .3, %s)' % TO,
-        returns='rw (← accessed-clear %s (@enum-told .given .1)) (@operate .ensures)' % STORES,
-        returns_2='rw (← accessed-fault %s _ (@verdict .given .1)) (failed (@args .core) _ (@args .regs .now) %s _ _ (@refuse .ensures))' % (STORES, LISTS)),
-    'act/carry': by(use=[ACT + '{no-block, words-read, carried-read, carried-denied, failed}', STATE + '{joined}'],
+        returns='(rw (← accessed-clear %s (@enum-told .given .1)) (@operate .ensures .0), @operate .ensures .1)' % STORES,
+        returns_2='(rw (@unsettled .ensures .0, ← accessed-fault %s _ (@verdict .given .1)) (failed (@args .core) _ (@args .regs .now) %s _ _ (@refuse .ensures)), %s)' % (STORES, LISTS, never())),
+    'act/carry': by(use=[NEVER, ACT + '{no-block, words-read, carried-read, carried-denied, failed}', STATE + '{joined}'],
         carry_block_requires='(@Start .pre .0, sym (@is-block .ensures) ∙ @if1 .taken)',
-        gather_requires='(@Start .pre .0, @few-reads .ensures .1)',
-        proceed_requires='(@Start .pre .0, @Start .pre .1, sym (@is-block .ensures) ∙ @if1 .left, words-read %s (@if2 .taken))' % FROM,
-        returns='@carry-block .ensures (@args .ports .now)',
-        returns_2='rw (← carried-read %s (@args .ports .now) (@if2 .taken)) (@proceed .ensures)' % FROM,
-        returns_3='rw (← carried-denied %s (@args .ports .now) (@if2 .left)) (failed (@args .core) _ (@args .regs .now) %s _ _ (@refuse .ensures))' % (FROM, LISTS)),
-    'act/instruct': by(STAGES + ' instructed carried', use=[ACT + '{failed}'],
-        returns='rw (← @prepare .ensures, @prepared .given .1) (@carry .ensures)',
-        returns_2='rw (← @prepare .ensures, @prepared2 .given .1) (failed (@args .core) _ (@args .regs .now) %s _ _ (@fault .ensures))' % LISTS),
-    'run/begin': by(STEP + ' perform', use=[LAWS + '{enters, instructs}', STATE + '{joined}', MACHINE + '{machine}', ISA + '{mil1750}'],
-        returns='rw (← enters mil1750 %s _ (@choose .ensures %s refl refl refl refl) (@if1 .taken), ← @release .ensures %s, ← @vector .ensures) (@enter .ensures %s (@args .ports .now))' % (MACHINE_AT, JOINED, REGS, REGS),
-        returns_2='rw (← instructs mil1750 %s _ (@choose .ensures %s refl refl refl refl) (@if1 .left), ← @release2 .ensures %s) (@instruct .ensures)' % (MACHINE_AT, JOINED, REGS)),
-    'run/step': by(STEP + ' step', use=[LAWS + '{became-ticked}'],
-        returns='became-ticked _ _ _ _ _ _ _ (@begin .ensures) (@tick .ensures)'),
+        gather_requires='(@Start .pre .0, @Start .pre .4, @few-reads .ensures .1)',
+        proceed_requires='(@Start .pre .0, @Start .pre .1, sym (@is-block .ensures) ∙ @if1 .left, words-read %s (@if2 .taken), @Start .pre .2, @Start .pre .3, @Start .pre .4)' % FROM,
+        returns='(@carry-block .ensures .0 (@args .ports .now), @carry-block .ensures .1)',
+        returns_2='(rw (← carried-read %s (@args .ports .now) (@if2 .taken)) (@proceed .ensures .0), @proceed .ensures .1)' % FROM,
+        returns_3='(rw (@unsettled .ensures .0, ← carried-denied %s (@args .ports .now) (@if2 .left)) (failed (@args .core) _ (@args .regs .now) %s _ _ (@refuse .ensures)), %s)' % (FROM, LISTS, never())),
+    'act/instruct': by(STAGES + ' instructed carried', use=[NEVER, ACT + '{failed}'],
+        prepare_requires='(@Start .pre .0, @Start .pre .3, @Start .pre .4, @Start .pre .5, @Start .pre .2)',
+        carry_requires='(@Start .pre .0, @Start .pre .1, @Start .pre .3, @Start .pre .4, @Start .pre .5)',
+        returns='(rw (← @prepare .ensures, @prepared .given .1) (@carry .ensures .0), @carry .ensures .1)',
+        returns_2='(rw (@unsettled .ensures .0, ← @prepare .ensures, @prepared2 .given .1) (failed (@args .core) _ (@args .regs .now) %s _ _ (@fault .ensures)), %s)' % (LISTS, never())),
+    'run/interrupted': by(STEP + ' perform', use=[LAWS + '{entry-step}', STATE + '{joined}', MACHINE + '{machine}', ISA + '{mil1750}'],
+        returns='λ regs ports e. entry-step mil1750 (machine (joined (@args .core) regs) (@args .memory .now) (@args .pages .now) ports) _ e _ _ regs _ _ ports (@tick .ensures) (@Start .pre .1) '
+            '(rw (← @release .ensures regs, ← @vector .ensures) (@enter .ensures regs ports))'),
+    'run/stays': by(use=[NEVER, 'borrow.Author.Tests.{eqb-true}'], returns='λ h. absurd (false≢true h)', returns_2='λ h. (@if1 .left, @if2 .taken, eqb-true (@args .after) (@args .before) h)', returns_3='λ h. absurd (false≢true h)'),
+    'run/go_on': {},
     'run/whole': by(RUNS + ' wholePages', use=[TESTS],
         returns='rw (eq-eqb _ _ (@if1 .taken), le-leb _ _ (@if2 .taken)) refl', returns_2='rw (eq-eqb _ _ (@if1 .taken), lt-leb _ _ (@if2 .left)) refl',
         returns_3='rw (ne-eqb _ _ (@if1 .left)) refl'),
@@ -104,16 +120,45 @@ for first, at in (('returns', 'governed'), ('returns-2', 'governed2')):
     rest = '_ (@%s .given .1)' % at if first == 'returns' else '_ _ (@%s .given .1) (@supervise .ensures .1, @supervise .ensures .2, @supervise .ensures .3) (@refuse .ensures)' % at
     A['act/govern'][first] = (
         'λ memory. %s (@args .core) memory (@args .n) (@args .regs .now) _ (@args .pages .now) _ (@args .ports .now) _ (@supervise .result) _ (@supervise .ensures .0) %s' % (law, rest))
+HERE = '(machine (joined (l .t) (l .regs)) (l .memory) (l .pages) (l .ports))'
+# the lengths of the lists after a call, by its argument at this place, the first of the three
+def lengths(call, place):
+    return ', '.join('@%s .kept %s.0 ∙ l .inv .%d' % (call, '.1 ' * (place + k), k) for k in range(3))
+
+
+TURN = 'rw (l .inv .%%d, steps-step mil1750 (l .left) %s (@loop-test .taken), ← became-machine (%%s)) refl' % HERE
+STEPPED = ('instruction-step mil1750 %s _ refl _ _ _ _ _ _ (@tick .ensures) _ (@release .ensures (l .regs)) (l .inv .6) (@instruct .ensures .0)' % HERE)
+STAYED = '(@stays .ensures (not-false (@stays .result) (@if1 .left)))'
+KEPT = '_ _ _ _ (@release .ensures) (@instruct .ensures .1 (%s .1)) (@tick .ensures) (%s .0) (%s .2)' % (STAYED, STAYED, STAYED)
+A['run/go_on'] = {
+    'use': [EQUATIONS, OMEGA, TESTS, LENGTH, 'Prim.Native.Nat.{_≤_}', STATE + '{keyOf, groupOf, joined}', MACHINE + '{machine}', RUNS + '{steps}', ISA + '{mil1750}',
+            'Rattle.machine.specs.Entries.{chosen}', STEP + '{perform, released}',
+            LAWS + '{steps-step, instruction-step, key-released, group-released, chosen-kept, key-kept, group-kept}', 'Rattle.machine.proofs.MachineLaws.{became-machine}'],
+    'Inv-loop': '(length memory ≡ length memory₀) × (length pages ≡ length pages₀) × (length ports ≡ length ports₀) × (left ≤ left₀) × '
+        '(key ≡ keyOf (t .sw)) × (group ≡ groupOf (t .sw)) × (16 ≤ chosen (joined t regs)) × '
+        '(steps mil1750 left₀ (machine (joined t₀ regs₀) memory₀ pages₀ ports₀) ≡ steps mil1750 left (machine (joined t regs) memory pages ports))',
+    'μ-loop': 'left', 'loop-holds': '(refl, refl, refl, omega arith, @Start .pre .3, @Start .pre .4, @Start .pre .7, refl)', 'default': 'omega arith',
+    'instruct-requires': '(omega arith, omega arith, @Start .pre .2, @loop .inv .4 ∙ key-released _ _ (@release .ensures), @loop .inv .5 ∙ group-released _ _ (@release .ensures), @Start .pre .5)',
+    'same-length-4': '@loop .inv .0', 'same-length-5': '@loop .inv .1', 'same-length-6': '@loop .inv .2',
+    'loop-again': 'let l = @loop in (%s, omega arith, l .inv .4 ∙ sym (key-kept %s), l .inv .5 ∙ sym (group-kept %s), rw (chosen-kept %s (l .regs) _) (l .inv .6), %s)'
+        % (lengths('instruct', 4), KEPT, KEPT, KEPT, TURN % (7, STEPPED)),
+    'returns': 'let l = @loop in (omega arith, %s)' % (TURN % (7, STEPPED)),
+    'returns-2': '(omega arith, @loop .inv .7)'}
+CHOSEN = '(@choose .ensures (joined (@loop .t) (@loop .regs)) refl refl refl refl)'
+for place in range(3):
+    A['run/go_on'][('same-length', 'same-length-2', 'same-length-3')[place]] = 'let l = @loop in ' + lengths('instruct', 4).split(', ')[place]
 A['run/run_steps'] = {
     'use': [EQUATIONS, OMEGA, LENGTH, STATE + '{joined}', MACHINE + '{machine}', RUNS + '{steps}', ISA + '{mil1750}', LAWS + '{steps-none, steps-step}',
             'Rattle.machine.proofs.MachineLaws.{became-machine, machine-became}'],
     'Inv-loop': '(length memory ≡ length memory₀) × (length pages ≡ length pages₀) × (length ports ≡ length ports₀) × '
         '(steps mil1750 left₀ (machine (joined t₀ regs₀) memory₀ pages₀ ports₀) ≡ steps mil1750 left (machine (joined t regs) memory pages ports))',
-    'μ-loop': 'left', 'loop-holds': '(refl, refl, refl, refl)', 'step-requires': '(omega arith, omega arith, @Start .pre .2)', 'default': 'omega arith',
-    'loop-again': 'let l = @loop in let k = @step .kept in (k .1 .1 .0 ∙ l .inv .0, k .1 .1 .1 .0 ∙ l .inv .1, k .1 .1 .1 .1 .0 ∙ l .inv .2, '
-        'rw (l .inv .3, steps-step mil1750 (l .left) (machine (joined (l .t) (l .regs)) (l .memory) (l .pages) (l .ports)) (@loop-test .taken), ← became-machine (@step .ensures)) refl)',
+    'μ-loop': 'left', 'loop-holds': '(refl, refl, refl, refl)', 'default': 'omega arith',
+    'interrupted-requires': '(omega arith, @if1 .taken)',
+    'go-on-requires': '(omega arith, omega arith, @Start .pre .2, @key-of .ensures .0, @group-of .ensures .0, @group-of .ensures .1, @loop-test .taken, rw (← %s) (@if1 .left))' % CHOSEN,
+    'loop-again': 'let l = @loop in (@interrupted .kept .1 .0 ∙ l .inv .0, l .inv .1, l .inv .2, %s)' % (TURN % (3, '@interrupted .ensures (l .regs) (l .ports) ' + CHOSEN)),
+    'loop-again-2': 'let l = @loop in (%s, l .inv .3 ∙ @go-on .ensures .1)' % lengths('go-on', 4),
     'same-length': '@loop .inv .0', 'same-length-2': '@loop .inv .1', 'same-length-3': '@loop .inv .2',
-    'returns': 'let l = @loop in machine-became (sym (l .inv .3 ∙ steps-none mil1750 (l .left) (machine (joined (l .t) (l .regs)) (l .memory) (l .pages) (l .ports)) (@loop-test .left)))'}
+    'returns': 'let l = @loop in machine-became (sym (l .inv .3 ∙ steps-none mil1750 (l .left) %s (@loop-test .left)))' % HERE}
 GIVEN = '(machine (@args .state) (@args .memory .now) (@args .pages .now) (@args .ports .now))'
 SPENT = '(sym (@number .ensures ∙ ap numberOf (@ask .ensures)) ∙ @if1 .taken)'
 A['run/run'] = {

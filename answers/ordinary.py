@@ -29,8 +29,8 @@ def by(*unfolded, use=(), **answers):
 
 KEYED = 'rw (← @key-of .ensures .0, ← @group-of .ensures .0) '
 READ = 'rw (lt-ltb _ _ (@if1 .left), ← @read-word .ensures, @%s .given .1) '
-FEW = ('rw (← gathered-few (keyOf (@args .sw)) (groupOf (@args .sw)) (@args .pages .now) (length (@args .memory .now)) (@args .memory .now) (@args .a) (@args .k) (@Start .pre .1)) ')
-KEYED_READ = 'rw (lt-ltb 0 (@args .k) (omega (arith, @if1 .left)), ← @key-of .ensures .0, ← @group-of .ensures .0, ← @read-word .ensures, @%s .given .1) '
+FEW = 'rw (← gathered-few (@args .key) (@args .group) (@args .pages .now) (length (@args .memory .now)) (@args .memory .now) (@args .a) (@args .k) (@Start .pre .2)) '
+FIRST_READ = 'rw (lt-ltb 0 (@args .k) (omega (arith, @if1 .left)), ← @read-word .ensures, @%s .given .1) '
 SEEN = '(context (@args .regs .now) (@args .ic) (@args .sw) (@args .pi)) (@args .n) (@args .x) (@args .y) (@args .z) (operationOf (@args .n .form))'
 
 A = {
@@ -40,10 +40,10 @@ A = {
         returns_2=READ % 'got' + '(@complete2 .ensures)', returns_3=READ % 'got2' + '(@denied .ensures)'),
     'gather_second': by(GATHERS + ' fromSecond after', SPANS + ' wrapped', use=[TESTS], returns='rw (le-ltb _ _ (@if1 .taken)) (@complete .ensures)',
         returns_2=READ % 'got' + '(rw (← @wrapping-add-u16 .ensures) (@gather-third .ensures))', returns_3=READ % 'got2' + '(@denied .ensures)'),
-    'gather': by(GATHERS + ' fromFirst after', SPANS + ' wrapped', use=[TESTS, LENGTH, OMEGA, LAWS + '{gathered-few}', STATE + '{keyOf, groupOf}'],
+    'gather': by(GATHERS + ' fromFirst after', SPANS + ' wrapped', use=[TESTS, LENGTH, OMEGA, LAWS + '{gathered-few}'],
         returns=FEW + '(rw (le-ltb 0 (@args .k) (omega (arith, @if1 .taken))) (@complete .ensures))',
-        returns_2=FEW + '(%s(rw (← @wrapping-add-u16 .ensures) (@gather-second .ensures)))' % KEYED_READ % 'got',
-        returns_3=FEW + '(%s(@denied .ensures))' % KEYED_READ % 'got2'),
+        returns_2=FEW + '(%s(rw (← @wrapping-add-u16 .ensures) (@gather-second .ensures)))' % FIRST_READ % 'got',
+        returns_3=FEW + '(%s(@denied .ensures))' % FIRST_READ % 'got2'),
     'store_at': by(STORES + ' storedOne', use=[TESTS, SPAN_LAWS],
         returns='rw (le-ltb _ _ (@if1 .taken)) refl', returns_2='rw (lt-ltb _ _ (@if1 .left)) (kept (@args .span) (@args .j) _ _ (@if2 .taken))',
         returns_3='rw (lt-ltb _ _ (@if1 .left)) (taken (@args .span) (@args .j) _ _ _ (@if2 .left) (@write-word .ensures))'),

@@ -19,30 +19,31 @@ def by(*unfolded, use=(), **answers):
     return made
 
 
-SECOND = 'granted-second _ _ _ _ _ _, ← @second-word .ensures, @%s .given .1'
-ADMITTED = 'ne-eqb _ _ (@if1 .left), ← @class-of .ensures, ← @permit .ensures'
+# the key and the group are those of SW
+KEYED, BACK = '← @Start .pre .1, ← @Start .pre .2', ', @Start .pre .1, @Start .pre .2'
+SECOND = 'granted-second _ _ _ _ _ _, ' + KEYED + ', ← @second-word .ensures, @%s .given .1'
+ADMITTED = 'ne-eqb _ _ (@if1 .left), ' + KEYED + ', ← @class-of .ensures, ← @permit .ensures'
 
 A = {
-    'look': by(use=[STATE + '{keyOf, groupOf}'], returns='rw (← @key-of .ensures .0, ← @group-of .ensures .0) (@read-word .ensures)'),
     'class_of': by(ISA + ' classOf', FORMS + ' privilegedOperations', use=[TESTS, OMEGA], arms='@arm',
         returns='rw (%s)' % ', '.join('ne-eqb (@args .operation) %d (omega (arith, @if1 .taken))' % k for k in (30, 1, 35)),
         returns_5='rw (ne-eqb _ _ (@match .rest .0 .0 .1), ne-eqb _ _ (@match .rest .0 .1), ne-eqb _ _ (@match .rest .1))'),
-    'permit': by(STAGES + ' permitted', STATE + ' keyOf', returns='rw (@enum-told .given .1)', returns_2='rw (@enum-told2 .given .1, ← @key-of .ensures .0) refl',
+    'permit': by(STAGES + ' permitted', returns='rw (@enum-told .given .1)', returns_2='rw (@enum-told2 .given .1) refl',
         returns_3='rw (@enum-told3 .given .1)'),
     'ready': by(STAGES + ' readyAt', returns='refl'),
     'redirect': by(STAGES + ' redirected', STATE + ' advanced',
         returns='λ regs. rw (@got .given .1) (@ready .ensures)', returns_2='λ regs. rw (@got2 .given .1, ← @advance .ensures) refl'),
     'derive': by(STAGES + ' derived', ISA + ' mil1750', use=[TESTS],
-        returns='rw (eq-eqb _ _ (@if1 .taken), ← @derive .ensures, ← @look .ensures) (@redirect .ensures (@args .regs .now))',
+        returns='rw (eq-eqb _ _ (@if1 .taken), ← @derive .ensures, ' + KEYED + ', ← @read-word .ensures) (@redirect .ensures (@args .regs .now))',
         returns_2='rw (ne-eqb _ _ (@if1 .left), ← @derive .ensures) (@ready .ensures)'),
     'second_word': by(use=[TESTS],
-        returns='rw (eq-eqb _ _ (@if1 .taken), ← @advance .ensures) (@look .ensures)', returns_2='rw (ne-eqb _ _ (@if1 .left))'),
+        returns='rw (eq-eqb _ _ (@if1 .taken), ← @advance .ensures) (@read-word .ensures)', returns_2='rw (ne-eqb _ _ (@if1 .left))'),
     'extend': by(STAGES + ' extended', STATE + ' advanced', use=[LAWS],
-        returns='rw (%s) (@derive .ensures)' % (SECOND % 'second'), returns_2='rw (%s, ← @advance .ensures) refl' % (SECOND % 'second2')),
+        returns='rw (%s) (@derive .ensures)' % (SECOND % 'second' + BACK), returns_2='rw (%s, ← @advance .ensures) refl' % (SECOND % 'second2')),
     'admit': by(STAGES + ' decoded granted', STATE + ' advanced', ISA + ' mil1750', use=[TESTS],
         returns='rw (eq-eqb _ _ (@if1 .taken), ← @advance .ensures) refl',
-        returns_2='rw (%s, @if2 .taken) (@extend .ensures)' % ADMITTED, returns_3='rw (%s, @if2 .left, ← @advance2 .ensures) refl' % ADMITTED),
+        returns_2='rw (%s) (@extend .ensures)' % (ADMITTED + ', @if2 .taken' + BACK), returns_3='rw (%s, @if2 .left, ← @advance2 .ensures) refl' % ADMITTED),
     'prepare': by(STAGES + ' prepared fetched', STATE + ' advanced', ISA + ' mil1750',
-        returns='rw (← @look .ensures, @first .given .1, ← @decode-with .ensures) (@admit .ensures)',
-        returns_2='rw (← @look .ensures, @first2 .given .1, ← @advance .ensures) refl'),
+        returns='rw (' + KEYED + ', ← @read-word .ensures, @first .given .1, ← @decode-with .ensures' + BACK + ') (@admit .ensures)',
+        returns_2='rw (' + KEYED + ', ← @read-word .ensures, @first2 .given .1, ← @advance .ensures) refl'),
 }

@@ -20,7 +20,7 @@ use Rattle.machine.specs.declared.Core.{Core}
 use Rattle.machine.specs.declared.Instruction.{Instruction}
 use Rattle.machine.specs.declared.Class.the-variants.{User}
 use Rattle.machine.specs.declared.Prepared.the-variants.{Ready}
-use Rattle.machine.specs.State.{keyOf, groupOf, advanced, joined}
+use Rattle.machine.specs.State.{keyOf, groupOf, withPi, withSw, withIc, withRegs, advanced, joined}
 use Rattle.machine.specs.Machine.{Became, Effect, Supervised, nextOf, spanFrom}
 use Rattle.machine.specs.Instructions.{fail, affect, view, both, supervised, operated, accessed, carried}
 use Rattle.machine.specs.Step.{faulted, affected, stored, perform}
@@ -35,8 +35,10 @@ use Rattle.command.specs.declared.Governed.{Governed}
 use Rattle.command.specs.declared.Governed.the-variants.{Done, Refused}
 use Rattle.command.specs.Outcome.{governed, Kept}
 use Rattle.block.specs.Operation.{isBlock, Worked}
+use Rattle.machine.proofs.StepLaws.{keeps-key, keeps-group}
 use Rattle.ordinary.specs.declared.Gathered.{Gathered}
 use Rattle.ordinary.specs.Gathers.{FirstThree, complete, denied, gathered}
+use Rattle.cpu.specs.Settled.{Settled}
 
 -- ---- the verdict on the accesses of a ready instruction
 
@@ -70,17 +72,17 @@ unfolding gathered complete denied
 denied-gathered Clear ws v e h = absurd (false≢true (sym h ∙ ap (λ r. r .clear) e))
 denied-gathered (Fault b) ws v e h = ap Fault (sym (ap (λ r. r .fault) e))
 
--- v is what the code gathered from the span
-module _ (s : State) (m g : List ℕ) (n : Instruction) (from : Span) (v : Gathered) (i : from ≡ readsOf (s .regs) n) (j : from ≡ spanFrom (from .start) (from .count))
+-- v is what the code gathered from the span, by the key and the group of the state
+module _ (s : State) (m g : List ℕ) (n : Instruction) (key group : ℕ) (d : key ≡ keyOf (s .sw)) (e : group ≡ groupOf (s .sw)) (from : Span) (v : Gathered)
+    (i : from ≡ readsOf (s .regs) n) (j : from ≡ spanFrom (from .start) (from .count))
     (k : v
-    ≡ gathered (checked (keyOf (s .sw)) (groupOf (s .sw)) g (length m) (spanFrom (from .start) (from .count)) Read)
-    (wordsOf (keyOf (s .sw)) (groupOf (s .sw)) g (length m) (spanFrom (from .start) (from .count)) m)) where
+    ≡ gathered (checked key group g (length m) (spanFrom (from .start) (from .count)) Read)
+    (wordsOf key group g (length m) (spanFrom (from .start) (from .count)) m)) where
   gathers : v
       ≡ gathered (checked (keyOf (s .sw)) (groupOf (s .sw)) g (length m) (readsOf (s .regs) n) Read)
       (wordsOf (keyOf (s .sw)) (groupOf (s .sw)) g (length m) (readsOf (s .regs) n) m)
   gathers =
-      k
-      ∙ ap (λ p. gathered (checked (keyOf (s .sw)) (groupOf (s .sw)) g (length m) p Read) (wordsOf (keyOf (s .sw)) (groupOf (s .sw)) g (length m) p m)) (sym j ∙ i)
+      rw (← d, ← e) (k ∙ ap (λ p. gathered (checked key group g (length m) p Read) (wordsOf key group g (length m) p m)) (sym j ∙ i))
 
   pub words-read : v .clear ≡ true → FirstThree (wordsOf (keyOf (s .sw)) (groupOf (s .sw)) g (length m) (readsOf (s .regs) n) m) (v .x) (v .y) (v .z)
   words-read h = all-gathered _ _ v gathers h .1
@@ -113,6 +115,22 @@ module _ (s : State) (m g o : List ℕ) (n : Instruction) (key group : ℕ) (to 
       ≡ accessed mil1750 s g o (view s m g) n (checked (keyOf (s .sw)) (groupOf (s .sw)) g (length m) (writesOf (s .regs) n) Write)
   unfolding accessed nextOf advanced mil1750
   accessed-fault b h = rw (on-stores (Fault b) h) refl
+
+-- ---- whether the choice of an interrupt stays
+
+-- a user's effect leaves it, as long as PI is what it was
+pub settled-by : (c d r : Core) (regs regs' : List ℕ) (e : Effect) (b : Bool) → r ≡ d → b ≡ eqb (d .pi) (c .pi) → joined d regs' ≡ affected (joined c regs) e
+    → b ≡ true → Settled c r
+unfolding affected withPi withSw withIc withRegs
+settled-by c d r regs regs' e b i t h k =
+    rw i (record {
+      pi-kept = eqb-true (d .pi) (c .pi) (sym t ∙ k);
+      mk-kept = ap (λ (s : State). s .mk) h;
+      enabled-kept = ap (λ (s : State). s .enabled) h;
+      hold-kept = ap (λ (s : State). s .hold) h;
+      key-kept = ap (λ (s : State). keyOf (s .sw)) h ∙ keeps-key (c .sw) (e .cs);
+      group-kept = ap (λ (s : State). groupOf (s .sw)) h ∙ keeps-group (c .sw) (e .cs);
+    })
 
 -- ---- a fault
 

@@ -1,8 +1,8 @@
--- What a step does, its end, a run's steps by a turn, and what the questions before a run let through. Assumes nothing.
+-- What a step does, its end, what stays over it, a run's steps by a turn, and what the questions before a run let through. Assumes nothing.
 use Prim.Native.Nat.{ℕ, zero, suc, _-_, _≤_, _<_}
-use mathlib.Core.Path.{_≡_, refl, sym, ap, _∙_}
+use mathlib.Core.Path.{_≡_, refl, sym, ap, subst, _∙_}
 use mathlib.Core.Bool.{Bool, true, false}
-use mathlib.Core.List.{List}
+use mathlib.Core.List.{List, []}
 use native.Mathlib.Omega.{arith}
 use native.Mathlib.Numerals.{sub-one}
 use lib.Dec.{T, eqb, eqb→eq}
@@ -11,12 +11,13 @@ use Rattle.machine.specs.declared.State.{State}
 use Rattle.machine.specs.declared.Core.{Core}
 use Rattle.machine.specs.declared.Answer.{Answer}
 use Rattle.machine.specs.declared.Answer.the-variants.{Spent, BadMemory, BadPages, BadPorts, BadBudget, BadCounter}
-use Rattle.machine.specs.State.{joined}
+use Rattle.machine.specs.State.{keyOf, groupOf, withPi, withHold, withTa, withTb, withCount, joined}
 use Rattle.machine.specs.Machine.{Machine, Became, Isa}
 use Rattle.machine.specs.Instructions.{enter, view, instructed}
-use Rattle.machine.specs.Entries.{chosen}
-use Rattle.machine.specs.Step.{released, begun, action, ticked, tick, step}
+use Rattle.machine.specs.Entries.{takeable, chosen}
+use Rattle.machine.specs.Step.{released, perform, begun, action, ticked, tick, step}
 use Rattle.machine.specs.Runs.{numberOf, asked, admission, steps}
+use Rattle.cpu.specs.Settled.{Settled}
 
 -- ---- what a step does, from the interrupt n that is chosen
 
@@ -35,6 +36,55 @@ pub became-ticked : (x : Machine) (c r : Core) (regs m g o : List ℕ) → Becam
 unfolding tick
 became-ticked x c r regs m g o b f =
     record { state-is = f regs ∙ ap ticked (b .state-is); memory-is = b .memory-is; pages-is = b .pages-is; ports-is = b .ports-is }
+
+-- ---- a step, from the interrupt n that is chosen, what was done and the end
+
+module _ (isa : Isa) (x : Machine) (n : ℕ) (e : n ≡ chosen (x .state)) (c r : Core) (regs m g o : List ℕ) (f : (v : List ℕ) → joined r v ≡ ticked (joined c v)) where
+  pub entry-step : n < 16 → Became (perform (released (x .state)) (x .memory) (x .pages) (x .ports) (enter n)) (joined c regs) m g o
+      → Became (step isa x) (joined r regs) m g o
+  unfolding step
+  entry-step h b = became-ticked _ c r regs m g o (rw (← enters isa x n e h) b) f
+
+  -- u is the state with the hold mark cleared
+  pub instruction-step : (u : State) → u ≡ released (x .state) → 16 ≤ n
+      → Became (perform u (x .memory) (x .pages) (x .ports) (instructed isa u (x .pages) (x .ports) (view u (x .memory) (x .pages)))) (joined c regs) m g o
+      → Became (step isa x) (joined r regs) m g o
+  unfolding step
+  instruction-step u k h b =
+      let done = subst (λ w. Became (perform w (x .memory) (x .pages) (x .ports) (instructed isa w (x .pages) (x .ports) (view w (x .memory) (x .pages)))) (joined c regs) m g o) k b in
+      became-ticked _ c r regs m g o (rw (← instructs isa x n e h) done) f
+
+-- the key and the address state stay where the hold mark is cleared
+module _ (t f : Core) (a : (v : List ℕ) → joined f v ≡ released (joined t v)) where
+  pub key-released : keyOf (t .sw) ≡ keyOf (f .sw)
+  unfolding released withHold
+  key-released = sym (ap (λ (u : State). keyOf (u .sw)) (a []))
+
+  pub group-released : groupOf (t .sw) ≡ groupOf (f .sw)
+  unfolding released withHold
+  group-released = sym (ap (λ (u : State). groupOf (u .sw)) (a []))
+
+-- the choice of an interrupt, the key and the address state stay over a step from t to d, by the cores f before and m after its instruction
+module _ (t f m d : Core) (a : (v : List ℕ) → joined f v ≡ released (joined t v)) (s : Settled f m) (b : (v : List ℕ) → joined d v ≡ ticked (joined m v))
+    (h : t .hold ≡ false) (p : d .pi ≡ f .pi) where
+  pub chosen-kept : (regs regs' : List ℕ) → chosen (joined d regs') ≡ chosen (joined t regs)
+  unfolding released ticked withHold withPi withTb withTa withCount chosen takeable
+  chosen-kept regs regs' =
+      rw (
+        p ∙ ap (λ (u : State). u .pi) (a []),
+        ap (λ (u : State). u .mk) (b []) ∙ s .mk-kept ∙ ap (λ (u : State). u .mk) (a []),
+        ap (λ (u : State). u .enabled) (b []) ∙ s .enabled-kept ∙ ap (λ (u : State). u .enabled) (a []),
+        ap (λ (u : State). u .hold) (b []) ∙ s .hold-kept ∙ ap (λ (u : State). u .hold) (a []),
+        h,
+      ) refl
+
+  pub key-kept : keyOf (d .sw) ≡ keyOf (t .sw)
+  unfolding released ticked withHold withPi withTb withTa withCount
+  key-kept = ap (λ (u : State). keyOf (u .sw)) (b []) ∙ s .key-kept ∙ ap (λ (u : State). keyOf (u .sw)) (a [])
+
+  pub group-kept : groupOf (d .sw) ≡ groupOf (t .sw)
+  unfolding released ticked withHold withPi withTb withTa withCount
+  group-kept = ap (λ (u : State). groupOf (u .sw)) (b []) ∙ s .group-kept ∙ ap (λ (u : State). groupOf (u .sw)) (a [])
 
 -- ---- n steps
 

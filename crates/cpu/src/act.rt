@@ -1,5 +1,5 @@
-// One instruction from its accesses on (Scope, "One step", 2 and 3), on a core and the registers lent beside it. Callers have 512 page
-// registers and 1,024 ports: a run asks for them.
+// One instruction from its accesses on (Scope, "One step", 2 and 3), on a core and the registers lent beside it; key and group are those of
+// its SW. Callers have 512 page registers and 1,024 ports: a run asks for them.
 ghost use mathlib.Core.Path.{_≡_};
 ghost use mathlib.Core.Bool.{true, false};
 ghost use mathlib.Core.List.{List, [], _∷_};
@@ -17,6 +17,8 @@ ghost use Rattle.isa.specs.Commands.{supervisedBy};
 ghost use Rattle.isa.specs.Mil1750.{classOf, mil1750};
 ghost use Rattle.block.specs.Operation.{isBlock};
 ghost use Rattle.ordinary.specs.Gathers.{FirstThree};
+ghost use Rattle.cpu.specs.Settled.{Settled};
+ghost use lib.Dec.{eqb};
 use access::accesses::few_reads;
 use access::accesses::few_writes;
 use access::accesses::reads;
@@ -43,6 +45,32 @@ use page::Verdict;
 use page::lookup::check_span;
 use prepare::class_of;
 use prepare::prepare;
+
+// The core after an instruction. Where it is settled, no other interrupt is to be chosen than before, by the same key and address state.
+pub struct Moved {
+    pub settled: bool,
+    pub core: Core,
+}
+
+// After a user's operation: it is settled where PI is what it was.
+fn weighed(pi: u16, core: Core) -> Moved
+    ensures { λ r. ⌜ (r .core ≡ core) × (r .settled ≡ eqb (core .pi) pi) ⌝ }
+{
+    Moved {
+        settled: core.pi == pi,
+        core,
+    }
+}
+
+// After anything else.
+fn unsettled(core: Core) -> Moved
+    ensures { λ r. ⌜ (r .core ≡ core) × (r .settled ≡ false) ⌝ }
+{
+    Moved {
+        settled: false,
+        core,
+    }
+}
 
 // The first refusal: all reads, then all writes.
 fn verify(sw: u16, pages: &[u16], size: usize, from: Span, to: Span) -> Verdict
@@ -73,19 +101,20 @@ fn carry_block(
     memory: &mut [u16],
     pages: &[u16],
     n: Instruction,
-) -> Core
+) -> Moved
     requires { ⌜ (length (now pages) ≡ 512) × (isBlock (operationOf (n .form)) ≡ true) ⌝ }
     ensures { λ r. ⌜ ((ports : List ℕ) → Became (perform (joined core (now (regs .entry))) (now (memory .entry)) (now (pages .entry)) ports
         (spec.carried mil1750 (joined core (now (regs .entry))) (now (pages .entry)) ports
         (spec.view (joined core (now (regs .entry))) (now (memory .entry)) (now (pages .entry))) (Prepared.Ready n)))
-        (joined r (now (regs .exit))) (now (memory .exit)) (now (pages .entry)) ports) ⌝ }
+        (joined (r .core) (now (regs .exit))) (now (memory .exit)) (now (pages .entry)) ports)
+        × (r .settled ≡ true → Settled core (r .core)) ⌝ }
 {
     let from = reads(regs, n);
     let to = writes(regs, n);
     let verdict = verify(core.sw, pages, memory.len(), from, to);
     match verdict {
-        Verdict::Clear => block(core, regs, memory, pages, n),
-        Verdict::Fault(b) => refuse(core, n.form, b),
+        Verdict::Clear => weighed(core.pi, block(core, regs, memory, pages, n)),
+        Verdict::Fault(b) => unsettled(refuse(core, n.form, b)),
     }
 }
 
@@ -150,26 +179,29 @@ fn operate(
     y: u16,
     z: u16,
     to: Span,
-) -> Core
+) -> Moved
     requires { ⌜ (length (now pages) ≡ 512) × (length (now ports) ≡ 1024) × (isBlock (operationOf (n .form)) ≡ false)
         × FirstThree (wordsOf (keyOf (core .sw)) (groupOf (core .sw)) (now pages) (length (now memory)) (readsOf (now regs) n) (now memory)) x y z
         × (to ≡ writesOf (now regs) n) ⌝ }
-    ensures { λ r. ⌜ Became (perform (joined core (now (regs .entry))) (now (memory .entry)) (now (pages .entry)) (now (ports .entry))
+    ensures { λ r. ⌜ (Became (perform (joined core (now (regs .entry))) (now (memory .entry)) (now (pages .entry)) (now (ports .entry))
         (spec.operated mil1750 (joined core (now (regs .entry))) (now (pages .entry)) (now (ports .entry)) (classOf (operationOf (n .form))) n
         (wordsOf (keyOf (core .sw)) (groupOf (core .sw)) (now (pages .entry)) (length (now (memory .entry))) (readsOf (now (regs .entry)) n) (now (memory .entry)))))
-        (joined r (now (regs .exit))) (now (memory .exit)) (now (pages .exit)) (now (ports .exit)) ⌝ }
+        (joined (r .core) (now (regs .exit))) (now (memory .exit)) (now (pages .exit)) (now (ports .exit)))
+        × (r .settled ≡ true → Settled core (r .core)) ⌝ }
 {
     let class = class_of(n.form % 256);
     match class {
-        Class::User => work(core, regs, memory, pages, n, x, y, z, to),
-        Class::Supervisor => govern(core, regs, pages, ports, n, x, y, z),
-        Class::Executive => call(core, memory, pages, n.first % 16),
+        Class::User => weighed(core.pi, work(core, regs, memory, pages, n, x, y, z, to)),
+        Class::Supervisor => unsettled(govern(core, regs, pages, ports, n, x, y, z)),
+        Class::Executive => unsettled(call(core, memory, pages, n.first % 16)),
     }
 }
 
 // An operation on at most three words, which have been read: its stores are checked before it changes anything.
 fn proceed(
     core: Core,
+    key: u16,
+    group: u16,
     regs: &mut [u16; 16],
     memory: &mut [u16],
     pages: &mut [u16],
@@ -178,48 +210,52 @@ fn proceed(
     x: u16,
     y: u16,
     z: u16,
-) -> Core
+) -> Moved
     requires { ⌜ (length (now pages) ≡ 512) × (length (now ports) ≡ 1024) × (isBlock (operationOf (n .form)) ≡ false)
-        × FirstThree (wordsOf (keyOf (core .sw)) (groupOf (core .sw)) (now pages) (length (now memory)) (readsOf (now regs) n) (now memory)) x y z ⌝ }
-    ensures { λ r. ⌜ Became (perform (joined core (now (regs .entry))) (now (memory .entry)) (now (pages .entry)) (now (ports .entry))
+        × FirstThree (wordsOf (keyOf (core .sw)) (groupOf (core .sw)) (now pages) (length (now memory)) (readsOf (now regs) n) (now memory)) x y z × (key ≡ keyOf (core .sw)) × (group ≡ groupOf (core .sw)) × (group < 16) ⌝ }
+    ensures { λ r. ⌜ (Became (perform (joined core (now (regs .entry))) (now (memory .entry)) (now (pages .entry)) (now (ports .entry))
         (spec.accessed mil1750 (joined core (now (regs .entry))) (now (pages .entry)) (now (ports .entry))
         (spec.view (joined core (now (regs .entry))) (now (memory .entry)) (now (pages .entry))) n
         (checked (keyOf (core .sw)) (groupOf (core .sw)) (now (pages .entry)) (length (now (memory .entry))) (writesOf (now (regs .entry)) n) Access.Write)))
-        (joined r (now (regs .exit))) (now (memory .exit)) (now (pages .exit)) (now (ports .exit)) ⌝ }
+        (joined (r .core) (now (regs .exit))) (now (memory .exit)) (now (pages .exit)) (now (ports .exit)))
+        × (r .settled ≡ true → Settled core (r .core)) ⌝ }
 {
-    let key = key_of(core.sw);
-    let group = group_of(core.sw);
     let to = few_writes(regs, n);
     let verdict = check_span(Access::Write, key, group, pages, memory.len(), to);
     match verdict {
         Verdict::Clear => operate(core, regs, memory, pages, ports, n, x, y, z, to),
-        Verdict::Fault(b) => refuse(core, n.form, b),
+        Verdict::Fault(b) => unsettled(refuse(core, n.form, b)),
     }
 }
 
 // An instruction that is ready: its accesses are checked before it changes anything.
 fn carry(
     core: Core,
+    key: u16,
+    group: u16,
     regs: &mut [u16; 16],
     memory: &mut [u16],
     pages: &mut [u16],
     ports: &mut [u16],
     n: Instruction,
-) -> Core
-    requires { ⌜ (length (now pages) ≡ 512) × (length (now ports) ≡ 1024) ⌝ }
-    ensures { λ r. ⌜ Became (perform (joined core (now (regs .entry))) (now (memory .entry)) (now (pages .entry)) (now (ports .entry))
+) -> Moved
+    requires { ⌜ (length (now pages) ≡ 512) × (length (now ports) ≡ 1024) × (key ≡ keyOf (core .sw)) × (group ≡ groupOf (core .sw)) × (group < 16) ⌝ }
+    ensures { λ r. ⌜ (Became (perform (joined core (now (regs .entry))) (now (memory .entry)) (now (pages .entry)) (now (ports .entry))
         (spec.carried mil1750 (joined core (now (regs .entry))) (now (pages .entry)) (now (ports .entry))
         (spec.view (joined core (now (regs .entry))) (now (memory .entry)) (now (pages .entry))) (Prepared.Ready n)))
-        (joined r (now (regs .exit))) (now (memory .exit)) (now (pages .exit)) (now (ports .exit)) ⌝ }
+        (joined (r .core) (now (regs .exit))) (now (memory .exit)) (now (pages .exit)) (now (ports .exit)))
+        × (r .settled ≡ true → Settled core (r .core)) ⌝ }
 {
     if is_block(n.form % 256) {
         return carry_block(core, regs, memory, pages, n);
     }
     let from = few_reads(regs, n);
-    let gathered = gather(core.sw, memory, pages, from.start, from.count);
+    let gathered = gather(key, group, memory, pages, from.start, from.count);
     if gathered.clear {
         return proceed(
             core,
+            key,
+            group,
             regs,
             memory,
             pages,
@@ -230,27 +266,30 @@ fn carry(
             gathered.z,
         );
     }
-    refuse(core, n.form, gathered.fault)
+    unsettled(refuse(core, n.form, gathered.fault))
 }
 
 // The instruction at IC, from a core whose hold mark is clear. The table is the decoder's.
 pub fn instruct(
     core: Core,
+    key: u16,
+    group: u16,
     regs: &mut [u16; 16],
     memory: &mut [u16],
     pages: &mut [u16],
     ports: &mut [u16],
     table: &[u16; 256],
-) -> Core
-    requires { ⌜ (length (now pages) ≡ 512) × (length (now ports) ≡ 1024) × (now table ≡ forms) ⌝ }
-    ensures { λ r. ⌜ Became (perform (joined core (now (regs .entry))) (now (memory .entry)) (now (pages .entry)) (now (ports .entry))
+) -> Moved
+    requires { ⌜ (length (now pages) ≡ 512) × (length (now ports) ≡ 1024) × (now table ≡ forms) × (key ≡ keyOf (core .sw)) × (group ≡ groupOf (core .sw)) × (group < 16) ⌝ }
+    ensures { λ r. ⌜ (Became (perform (joined core (now (regs .entry))) (now (memory .entry)) (now (pages .entry)) (now (ports .entry))
         (spec.instructed mil1750 (joined core (now (regs .entry))) (now (pages .entry)) (now (ports .entry))
         (spec.view (joined core (now (regs .entry))) (now (memory .entry)) (now (pages .entry)))))
-        (joined r (now (regs .exit))) (now (memory .exit)) (now (pages .exit)) (now (ports .exit)) ⌝ }
+        (joined (r .core) (now (regs .exit))) (now (memory .exit)) (now (pages .exit)) (now (ports .exit)))
+        × (r .settled ≡ true → Settled core (r .core)) ⌝ }
 {
-    let prepared = prepare(core, regs, memory, pages, table);
+    let prepared = prepare(core, key, group, regs, memory, pages, table);
     match prepared {
-        Prepared::Ready(n) => carry(core, regs, memory, pages, ports, n),
-        Prepared::Denied(b, a) => fault(core, b, a),
+        Prepared::Ready(n) => carry(core, key, group, regs, memory, pages, ports, n),
+        Prepared::Denied(b, a) => unsettled(fault(core, b, a)),
     }
 }

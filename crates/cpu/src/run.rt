@@ -1,14 +1,20 @@
 // Steps and runs (Scope, "One step", "Questions at the door").
 ghost use mathlib.Core.Path.{_≡_};
+ghost use mathlib.Core.Bool.{true, false};
+ghost use mathlib.Core.List.{List};
+ghost use Prim.Native.Nat.{ℕ, _<_, _≤_};
 ghost use lib.ListN.{length};
 ghost use Rattle.decode.specs.Decode.{forms};
-ghost use Rattle.machine.specs.State.{joined};
+ghost use Rattle.machine.specs.State.{keyOf, groupOf, joined};
 ghost use Rattle.machine.specs.Machine.{Became, machine};
+ghost use Rattle.machine.specs.Entries.{chosen};
 ghost use Rattle.machine.specs.Step as spec;
 ghost use Rattle.machine.specs.Runs.{numberOf, wholePages, admission, answerOf, steps, left};
 ghost use Rattle.isa.specs.Mil1750.{mil1750};
 use crate::act::instruct;
 use interrupt::entry::enter;
+use interrupt::fields::group_of;
+use interrupt::fields::key_of;
 use interrupt::pending::choose;
 use interrupt::time::release;
 use interrupt::time::tick;
@@ -17,44 +23,66 @@ use machine::Answer;
 use machine::Core;
 use machine::State;
 
-// What a step does before its end: the entry of an interrupt, or an instruction.
-fn begin(
-    core: Core,
-    regs: &mut [u16; 16],
-    memory: &mut [u16],
-    pages: &mut [u16],
-    ports: &mut [u16],
-    table: &[u16; 256],
-) -> Core
-    requires { ⌜ (length (now pages) ≡ 512) × (length (now ports) ≡ 1024) × (now table ≡ forms) ⌝ }
-    ensures { λ r. ⌜ Became (spec.perform (spec.released (joined core (now (regs .entry)))) (now (memory .entry)) (now (pages .entry)) (now (ports .entry))
-        (spec.action mil1750 (machine (joined core (now (regs .entry))) (now (memory .entry)) (now (pages .entry)) (now (ports .entry)))))
-        (joined r (now (regs .exit))) (now (memory .exit)) (now (pages .exit)) (now (ports .exit)) ⌝ }
+// One step: the entry of interrupt n, where it is to be entered, with any registers and ports.
+fn interrupted(core: Core, memory: &mut [u16], pages: &[u16], n: u16) -> Core
+    requires { ⌜ (length (now pages) ≡ 512) × (n < 16) ⌝ }
+    ensures { λ r. ⌜ ((regs ports : List ℕ) → n ≡ chosen (joined core regs)
+        → Became (spec.step mil1750 (machine (joined core regs) (now (memory .entry)) (now (pages .entry)) ports)) (joined r regs) (now (memory .exit)) (now (pages .entry)) ports) ⌝ }
 {
-    let n = choose(core.hold, core.enabled, core.mk, core.pi);
-    // each way has a core of its own: one that `enter` is lent stays out of the way of instructions
-    if n < 16 {
-        let v = vector(memory, pages, n);
-        return enter(release(core), memory, pages, n, v);
-    }
-    instruct(release(core), regs, memory, pages, ports, table)
+    let v = vector(memory, pages, n);
+    let done = enter(release(core), memory, pages, n, v);
+    tick(done)
 }
 
-// One step.
-pub fn step(
+// Whether the choice of an interrupt is as before a step: the hold mark was not set, the instruction left it, and no timer changed PI.
+fn stays(held: bool, settled: bool, before: u16, after: u16) -> bool
+    ensures { λ r. ⌜ (r ≡ true → (held ≡ false) × (settled ≡ true) × (after ≡ before)) ⌝ }
+{
+    if held {
+        return false;
+    }
+    if settled {
+        return after == before;
+    }
+    false
+}
+
+// What is left of some steps after the first of them.
+pub struct Rest {
+    pub core: Core,
+    pub left: u32,
+}
+
+// Of n steps the first, which runs an instruction, and those after it as long as the choice of an interrupt stays. Key and group are those of SW.
+fn go_on(
     core: Core,
+    key: u16,
+    group: u16,
     regs: &mut [u16; 16],
     memory: &mut [u16],
     pages: &mut [u16],
     ports: &mut [u16],
     table: &[u16; 256],
-) -> Core
-    requires { ⌜ (length (now pages) ≡ 512) × (length (now ports) ≡ 1024) × (now table ≡ forms) ⌝ }
-    ensures { λ r. ⌜ Became (spec.step mil1750 (machine (joined core (now (regs .entry))) (now (memory .entry)) (now (pages .entry)) (now (ports .entry))))
-        (joined r (now (regs .exit))) (now (memory .exit)) (now (pages .exit)) (now (ports .exit)) ⌝ }
+    n: u32,
+) -> Rest
+    requires { ⌜ (length (now pages) ≡ 512) × (length (now ports) ≡ 1024) × (now table ≡ forms) × (key ≡ keyOf (core .sw)) × (group ≡ groupOf (core .sw))
+        × (group < 16) × (0 < n) × (16 ≤ chosen (joined core (now regs))) ⌝ }
+    ensures { λ r. ⌜ (r .left < n) × (steps mil1750 n (machine (joined core (now (regs .entry))) (now (memory .entry)) (now (pages .entry)) (now (ports .entry)))
+        ≡ steps mil1750 (r .left) (machine (joined (r .core) (now (regs .exit))) (now (memory .exit)) (now (pages .exit)) (now (ports .exit)))) ⌝ }
 {
-    let done = begin(core, regs, memory, pages, ports, table);
-    tick(done)
+    let mut t = core;
+    let mut left = n;
+    while 0 < left {
+        let before = release(t);
+        let moved = instruct(before, key, group, regs, memory, pages, ports, table);
+        let done = tick(moved.core);
+        left -= 1;
+        if !stays(t.hold, moved.settled, before.pi, done.pi) {
+            return Rest { core: done, left };
+        }
+        t = done;
+    }
+    Rest { core: t, left }
 }
 
 // As many steps as are told.
@@ -74,8 +102,17 @@ fn run_steps(
     let mut t = core;
     let mut left = n;
     while 0 < left {
-        t = step(t, regs, memory, pages, ports, table);
-        left -= 1;
+        let i = choose(t.hold, t.enabled, t.mk, t.pi);
+        if i < 16 {
+            t = interrupted(t, memory, pages, i);
+            left -= 1;
+        } else {
+            let key = key_of(t.sw);
+            let group = group_of(t.sw);
+            let rest = go_on(t, key, group, regs, memory, pages, ports, table, left);
+            t = rest.core;
+            left = rest.left;
+        }
     }
     t
 }

@@ -61,11 +61,11 @@ found-found x y x' y' x'' y'' f h = record {
 
 -- ---- one step of two machines that share all but their memories
 
-keeps-key : (sw cs : ℕ) → keyOf (withCs sw cs) ≡ keyOf sw
+pub keeps-key : (sw cs : ℕ) → keyOf (withCs sw cs) ≡ keyOf sw
 unfolding keyOf withCs
 keeps-key sw cs = omega arith
 
-keeps-group : (sw cs : ℕ) → groupOf (withCs sw cs) ≡ groupOf sw
+pub keeps-group : (sw cs : ℕ) → groupOf (withCs sw cs) ≡ groupOf sw
 unfolding groupOf withCs
 keeps-group sw cs = omega arith
 

@@ -122,17 +122,15 @@ fn gather_second(
     }
 }
 
-// At most three words from the address a on, by the key and the address state of SW: checked and read at once.
-pub fn gather(sw: u16, memory: &[u16], pages: &[u16], a: u16, k: u16) -> Gathered
-    requires { ⌜ (length (now pages) ≡ 512) × (k ≤ 3) ⌝ }
-    ensures { λ r. ⌜ r ≡ gathered (checked (keyOf sw) (groupOf sw) (now (pages .entry)) (length (now (memory .entry))) (spanFrom a k) Access.Read)
-        (wordsOf (keyOf sw) (groupOf sw) (now (pages .entry)) (length (now (memory .entry))) (spanFrom a k) (now (memory .entry))) ⌝ }
+// At most three words from the address a on: checked and read at once.
+pub fn gather(key: u16, group: u16, memory: &[u16], pages: &[u16], a: u16, k: u16) -> Gathered
+    requires { ⌜ (length (now pages) ≡ 512) × (group < 16) × (k ≤ 3) ⌝ }
+    ensures { λ r. ⌜ r ≡ gathered (checked key group (now (pages .entry)) (length (now (memory .entry))) (spanFrom a k) Access.Read)
+        (wordsOf key group (now (pages .entry)) (length (now (memory .entry))) (spanFrom a k) (now (memory .entry))) ⌝ }
 {
     if k == 0 {
         return complete(0, 0, 0);
     }
-    let key = key_of(sw);
-    let group = group_of(sw);
     let got = read_word(Access::Read, key, group, memory, pages, a);
     match got {
         Got::Word(x) => {

@@ -1,9 +1,10 @@
 // An instruction up to its accesses (Scope, "One step", 2): fetch, decode, privilege, second word, derived address. Each stage is the
-// definition's, at the state of a core and the registers lent beside it. Callers have 512 page registers: a run asks for them.
+// definition's, at the state of a core and the registers lent beside it; key and group are those of its SW. Callers have 512 page registers:
+// a run asks for them.
 ghost use mathlib.Core.Path.{_≡_};
 ghost use mathlib.Core.Bool.{true, cond};
 ghost use mathlib.Core.List.{List};
-ghost use Prim.Native.Nat.{ℕ, _+_};
+ghost use Prim.Native.Nat.{ℕ, _+_, _<_};
 ghost use lib.Dec.{eqb};
 ghost use lib.ListN.{length};
 ghost use Rattle.page.specs.Pages.{lookup};
@@ -14,8 +15,6 @@ ghost use Rattle.machine.specs.State.{keyOf, groupOf, joined};
 ghost use Rattle.machine.specs.Instructions.{view, permitted, readyAt, redirected, derived, granted, decoded, prepared};
 ghost use Rattle.isa.specs.Mil1750.{classOf, mil1750};
 use interrupt::fields::advance;
-use interrupt::fields::group_of;
-use interrupt::fields::key_of;
 use machine::Class;
 use machine::Core;
 use machine::Instruction;
@@ -23,16 +22,6 @@ use machine::Prepared;
 use page::Access;
 use page::Got;
 use page::read::read_word;
-
-// The word at a logical address, by the key and the address state of SW.
-pub fn look(access: Access, sw: u16, memory: &[u16], pages: &[u16], a: u16) -> Got
-    requires { ⌜ length (now pages) ≡ 512 ⌝ }
-    ensures { λ r. ⌜ r ≡ gotAt (now (memory .entry)) (lookup access (keyOf sw) (groupOf sw) (now (pages .entry)) (length (now (memory .entry))) a) ⌝ }
-{
-    let key = key_of(sw);
-    let group = group_of(sw);
-    read_word(access, key, group, memory, pages, a)
-}
 
 // Who may run an operation: BEX (5.30) calls the executive, XIO (5.1) and LST (5.35) are privileged.
 pub fn class_of(operation: u16) -> Class
@@ -50,13 +39,13 @@ pub fn class_of(operation: u16) -> Class
     }
 }
 
-// Whether the key of SW may run it.
-fn permit(class: Class, sw: u16) -> bool
-    ensures { λ r. ⌜ r ≡ permitted class (keyOf sw) ⌝ }
+// Whether the key may run it.
+fn permit(class: Class, key: u16) -> bool
+    ensures { λ r. ⌜ r ≡ permitted class key ⌝ }
 {
     match class {
         Class::User => true,
-        Class::Supervisor => key_of(sw) == 0,
+        Class::Supervisor => key == 0,
         Class::Executive => true,
     }
 }
@@ -86,6 +75,8 @@ fn redirect(core: Core, form: u16, w: u16, x: u16, got: Got) -> Prepared
 // The derived address.
 fn derive(
     core: Core,
+    key: u16,
+    group: u16,
     regs: &[u16; 16],
     memory: &[u16],
     pages: &[u16],
@@ -93,29 +84,29 @@ fn derive(
     w: u16,
     x: u16,
 ) -> Prepared
-    requires { ⌜ length (now pages) ≡ 512 ⌝ }
+    requires { ⌜ (length (now pages) ≡ 512) × (key ≡ keyOf (core .sw)) × (group ≡ groupOf (core .sw)) × (group < 16) ⌝ }
     ensures { λ r. ⌜ r ≡ derived mil1750 (joined core (now (regs .entry)))
         (view (joined core (now (regs .entry))) (now (memory .entry)) (now (pages .entry))) form w x (eqb (modeOf form) 7) ⌝ }
 {
     let mode = form / 256 % 16;
     let a = access::addressing::derive(mode, regs, core.ic, w, x);
     if mode == 7 {
-        let got = look(Access::Read, core.sw, memory, pages, a);
+        let got = read_word(Access::Read, key, group, memory, pages, a);
         return redirect(core, form, w, x, got);
     }
     ready(form, w, x, a)
 }
 
 // The second word, and 0 where there is none.
-fn second_word(ic: u16, sw: u16, memory: &[u16], pages: &[u16], form: u16) -> Got
-    requires { ⌜ length (now pages) ≡ 512 ⌝ }
+fn second_word(ic: u16, key: u16, group: u16, memory: &[u16], pages: &[u16], form: u16) -> Got
+    requires { ⌜ (length (now pages) ≡ 512) × (group < 16) ⌝ }
     ensures { λ r. ⌜ r ≡ cond (eqb (lengthOf form) 2)
-        (gotAt (now (memory .entry)) (lookup Access.Fetch (keyOf sw) (groupOf sw) (now (pages .entry)) (length (now (memory .entry))) (wrapped (ic + 1))))
+        (gotAt (now (memory .entry)) (lookup Access.Fetch key group (now (pages .entry)) (length (now (memory .entry))) (wrapped (ic + 1))))
         (Got.Word 0) ⌝ }
 {
     if form / 4096 == 2 {
         let at = advance(ic, 1);
-        return look(Access::Fetch, sw, memory, pages, at);
+        return read_word(Access::Fetch, key, group, memory, pages, at);
     }
     Got::Word(0)
 }
@@ -123,26 +114,37 @@ fn second_word(ic: u16, sw: u16, memory: &[u16], pages: &[u16], form: u16) -> Go
 // A permitted instruction, from its second word on.
 fn extend(
     core: Core,
+    key: u16,
+    group: u16,
     regs: &[u16; 16],
     memory: &[u16],
     pages: &[u16],
     form: u16,
     w: u16,
 ) -> Prepared
-    requires { ⌜ length (now pages) ≡ 512 ⌝ }
+    requires { ⌜ (length (now pages) ≡ 512) × (key ≡ keyOf (core .sw)) × (group ≡ groupOf (core .sw)) × (group < 16) ⌝ }
     ensures { λ r. ⌜ r ≡ granted mil1750 (joined core (now (regs .entry)))
         (view (joined core (now (regs .entry))) (now (memory .entry)) (now (pages .entry))) form w true (eqb (lengthOf form) 2) ⌝ }
 {
-    let second = second_word(core.ic, core.sw, memory, pages, form);
+    let second = second_word(core.ic, key, group, memory, pages, form);
     match second {
-        Got::Word(x) => derive(core, regs, memory, pages, form, w, x),
+        Got::Word(x) => derive(core, key, group, regs, memory, pages, form, w, x),
         Got::Missed(b) => Prepared::Denied(b, advance(core.ic, 2)),
     }
 }
 
 // A first word of this form, from its legality on.
-fn admit(core: Core, regs: &[u16; 16], memory: &[u16], pages: &[u16], form: u16, w: u16) -> Prepared
-    requires { ⌜ length (now pages) ≡ 512 ⌝ }
+fn admit(
+    core: Core,
+    key: u16,
+    group: u16,
+    regs: &[u16; 16],
+    memory: &[u16],
+    pages: &[u16],
+    form: u16,
+    w: u16,
+) -> Prepared
+    requires { ⌜ (length (now pages) ≡ 512) × (key ≡ keyOf (core .sw)) × (group ≡ groupOf (core .sw)) × (group < 16) ⌝ }
     ensures { λ r. ⌜ r ≡ decoded mil1750 (joined core (now (regs .entry)))
         (view (joined core (now (regs .entry))) (now (memory .entry)) (now (pages .entry))) form w (eqb form 0) ⌝ }
 {
@@ -150,8 +152,8 @@ fn admit(core: Core, regs: &[u16; 16], memory: &[u16], pages: &[u16], form: u16,
         return Prepared::Denied(0x0040, advance(core.ic, 1));
     }
     let class = class_of(form % 256);
-    if permit(class, core.sw) {
-        return extend(core, regs, memory, pages, form, w);
+    if permit(class, key) {
+        return extend(core, key, group, regs, memory, pages, form, w);
     }
     Prepared::Denied(0x0020, advance(core.ic, 1))
 }
@@ -159,20 +161,22 @@ fn admit(core: Core, regs: &[u16; 16], memory: &[u16], pages: &[u16], form: u16,
 // The instruction at IC, ready for its accesses, or its refusal. The table is the decoder's, made once a run.
 pub fn prepare(
     core: Core,
+    key: u16,
+    group: u16,
     regs: &[u16; 16],
     memory: &[u16],
     pages: &[u16],
     table: &[u16; 256],
 ) -> Prepared
-    requires { ⌜ (length (now pages) ≡ 512) × (now table ≡ forms) ⌝ }
+    requires { ⌜ (length (now pages) ≡ 512) × (key ≡ keyOf (core .sw)) × (group ≡ groupOf (core .sw)) × (group < 16) × (now table ≡ forms) ⌝ }
     ensures { λ r. ⌜ r ≡ prepared mil1750 (joined core (now (regs .entry)))
         (view (joined core (now (regs .entry))) (now (memory .entry)) (now (pages .entry))) ⌝ }
 {
-    let first = look(Access::Fetch, core.sw, memory, pages, core.ic);
+    let first = read_word(Access::Fetch, key, group, memory, pages, core.ic);
     match first {
         Got::Word(w) => {
             let form = decode::decode_with(table, w);
-            admit(core, regs, memory, pages, form, w)
+            admit(core, key, group, regs, memory, pages, form, w)
         }
         Got::Missed(b) => Prepared::Denied(b, advance(core.ic, 1)),
     }

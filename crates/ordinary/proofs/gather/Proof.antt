@@ -4,7 +4,6 @@ use borrow.Author.Tests.{le-ltb, lt-ltb}
 use lib.ListN.{length}
 use native.Mathlib.Omega.{arith}
 use Rattle.ordinary.proofs.OrdinaryLaws.{gathered-few}
-use Rattle.machine.specs.State.{keyOf, groupOf}
 use Rattle.ordinary.specs.Gathers.{fromFirst, after}
 use Rattle.page.specs.Spans.{wrapped}
 use borrow.Author.Needs.{needs}
@@ -12,8 +11,6 @@ use Rattle.ordinary.proofs.gather.Statement.{statement}
 use Rattle.ordinary.proofs.gather.Tie as tie
 use Rattle.ordinary.proofs.gather.Reads as reads
 use Rattle.ordinary.proofs.gather.Lts as lts
-use Rattle.interrupt.proofs.fields.group_of.Reads as group-of-reads
-use Rattle.interrupt.proofs.fields.key_of.Reads as key-of-reads
 use Rattle.ordinary.proofs.complete.Reads as complete-reads
 use Rattle.ordinary.proofs.denied.Reads as denied-reads
 use Rattle.ordinary.proofs.gather_second.Reads as gather-second-reads
@@ -25,13 +22,7 @@ complete-requires c κs = search needs
 
 returns : tie.Need-returns
 unfolding fromFirst after wrapped
-returns c = rw (← gathered-few (keyOf (c .before .before .before .before .args .sw)) (groupOf (c .before .before .before .before .args .sw)) (c .before .before .before .before .args .pages .now) (length (c .before .before .before .before .args .memory .now)) (c .before .before .before .before .args .memory .now) (c .before .before .before .before .args .a) (c .before .before .before .before .args .k) (c .before .before .before .before .pre .1)) (rw (le-ltb 0 (c .before .before .before .before .args .k) (omega (arith, c .before .if1 .taken))) (c .complete .ensures))
-
-key-of-requires : tie.Need-key-of-requires
-key-of-requires c κs = search needs
-
-group-of-requires : tie.Need-group-of-requires
-group-of-requires c κs = search needs
+returns c = rw (← gathered-few (c .before .before .before .before .args .key) (c .before .before .before .before .args .group) (c .before .before .before .before .args .pages .now) (length (c .before .before .before .before .args .memory .now)) (c .before .before .before .before .args .memory .now) (c .before .before .before .before .args .a) (c .before .before .before .before .args .k) (c .before .before .before .before .pre .2)) (rw (le-ltb 0 (c .before .before .before .before .args .k) (omega (arith, c .before .if1 .taken))) (c .complete .ensures))
 
 read-word-requires : tie.Need-read-word-requires
 read-word-requires c κs = search needs
@@ -53,11 +44,11 @@ denied-requires c κs = search needs
 
 returns-2 : tie.Need-returns-2
 unfolding fromFirst after wrapped
-returns-2 c = rw (← gathered-few (keyOf (c .before .before .before .before .before .before .before .before .before .before .before .args .sw)) (groupOf (c .before .before .before .before .before .before .before .before .before .before .before .args .sw)) (c .before .before .before .before .before .before .before .before .before .before .before .args .pages .now) (length (c .before .before .before .before .before .before .before .before .before .before .before .args .memory .now)) (c .before .before .before .before .before .before .before .before .before .before .before .args .memory .now) (c .before .before .before .before .before .before .before .before .before .before .before .args .a) (c .before .before .before .before .before .before .before .before .before .before .before .args .k) (c .before .before .before .before .before .before .before .before .before .before .before .pre .1)) (rw (lt-ltb 0 (c .before .before .before .before .before .before .before .before .before .before .before .args .k) (omega (arith, c .before .before .before .before .before .before .before .before .if1 .left)), ← c .before .before .before .before .before .before .before .key-of .ensures .0, ← c .before .before .before .before .before .before .group-of .ensures .0, ← c .before .before .before .before .before .read-word .ensures, c .before .before .before .got .given .1) (rw (← c .before .wrapping-add-u16 .ensures) (c .gather-second .ensures)))
+returns-2 c = rw (← gathered-few (c .before .before .before .before .before .before .before .before .before .args .key) (c .before .before .before .before .before .before .before .before .before .args .group) (c .before .before .before .before .before .before .before .before .before .args .pages .now) (length (c .before .before .before .before .before .before .before .before .before .args .memory .now)) (c .before .before .before .before .before .before .before .before .before .args .memory .now) (c .before .before .before .before .before .before .before .before .before .args .a) (c .before .before .before .before .before .before .before .before .before .args .k) (c .before .before .before .before .before .before .before .before .before .pre .2)) (rw (lt-ltb 0 (c .before .before .before .before .before .before .before .before .before .args .k) (omega (arith, c .before .before .before .before .before .before .if1 .left)), ← c .before .before .before .before .before .read-word .ensures, c .before .before .before .got .given .1) (rw (← c .before .wrapping-add-u16 .ensures) (c .gather-second .ensures)))
 
 returns-3 : tie.Need-returns-3
 unfolding fromFirst after wrapped
-returns-3 c = rw (← gathered-few (keyOf (c .before .before .before .before .before .before .before .before .before .before .args .sw)) (groupOf (c .before .before .before .before .before .before .before .before .before .before .args .sw)) (c .before .before .before .before .before .before .before .before .before .before .args .pages .now) (length (c .before .before .before .before .before .before .before .before .before .before .args .memory .now)) (c .before .before .before .before .before .before .before .before .before .before .args .memory .now) (c .before .before .before .before .before .before .before .before .before .before .args .a) (c .before .before .before .before .before .before .before .before .before .before .args .k) (c .before .before .before .before .before .before .before .before .before .before .pre .1)) (rw (lt-ltb 0 (c .before .before .before .before .before .before .before .before .before .before .args .k) (omega (arith, c .before .before .before .before .before .before .before .if1 .left)), ← c .before .before .before .before .before .before .key-of .ensures .0, ← c .before .before .before .before .before .group-of .ensures .0, ← c .before .before .before .before .read-word .ensures, c .before .before .got2 .given .1) (c .denied .ensures))
+returns-3 c = rw (← gathered-few (c .before .before .before .before .before .before .before .before .args .key) (c .before .before .before .before .before .before .before .before .args .group) (c .before .before .before .before .before .before .before .before .args .pages .now) (length (c .before .before .before .before .before .before .before .before .args .memory .now)) (c .before .before .before .before .before .before .before .before .args .memory .now) (c .before .before .before .before .before .before .before .before .args .a) (c .before .before .before .before .before .before .before .before .args .k) (c .before .before .before .before .before .before .before .before .pre .2)) (rw (lt-ltb 0 (c .before .before .before .before .before .before .before .before .args .k) (omega (arith, c .before .before .before .before .before .if1 .left)), ← c .before .before .before .before .read-word .ensures, c .before .before .got2 .given .1) (c .denied .ensures))
 
 pub gather-spec : {M : Type 1} → statement M
 gather-spec =
@@ -65,8 +56,6 @@ gather-spec =
     (tie.spec
     complete-requires
     returns
-    key-of-requires
-    group-of-requires
     read-word-requires
     enum-known-got
     wrapping-add-u16-requires

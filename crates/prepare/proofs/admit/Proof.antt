@@ -32,14 +32,14 @@ extend-requires c κs = search needs
 
 returns-2 : tie.Need-returns-2
 unfolding decoded granted advanced mil1750
-returns-2 c = rw (ne-eqb _ _ (c .before .before .before .before .if1 .left), ← c .before .before .before .class-of .ensures, ← c .before .before .permit .ensures, c .before .if2 .taken) (c .extend .ensures)
+returns-2 c = rw (ne-eqb _ _ (c .before .before .before .before .if1 .left), ← c .before .before .before .before .before .before .before .pre .1, ← c .before .before .before .before .before .before .before .pre .2, ← c .before .before .before .class-of .ensures, ← c .before .before .permit .ensures, c .before .if2 .taken, c .before .before .before .before .before .before .before .pre .1, c .before .before .before .before .before .before .before .pre .2) (c .extend .ensures)
 
 advance-requires-2 : tie.Need-advance-requires-2
 advance-requires-2 c κs = search needs
 
 returns-3 : tie.Need-returns-3
 unfolding decoded granted advanced mil1750
-returns-3 c = rw (ne-eqb _ _ (c .before .before .before .before .if1 .left), ← c .before .before .before .class-of .ensures, ← c .before .before .permit .ensures, c .before .if2 .left, ← c .advance2 .ensures) refl
+returns-3 c = rw (ne-eqb _ _ (c .before .before .before .before .if1 .left), ← c .before .before .before .before .before .before .before .pre .1, ← c .before .before .before .before .before .before .before .pre .2, ← c .before .before .before .class-of .ensures, ← c .before .before .permit .ensures, c .before .if2 .left, ← c .advance2 .ensures) refl
 
 pub admit-spec : {M : Type 1} → statement M
 admit-spec =

@@ -29,11 +29,11 @@ advance-requires c κs = search needs
 
 returns : tie.Need-returns
 unfolding extended advanced
-returns c = rw (granted-second _ _ _ _ _ _, ← c .before .before .before .before .second-word .ensures, c .before .before .second .given .1) (c .derive .ensures)
+returns c = rw (granted-second _ _ _ _ _ _, ← c .before .before .before .before .before .before .before .pre .1, ← c .before .before .before .before .before .before .before .pre .2, ← c .before .before .before .before .second-word .ensures, c .before .before .second .given .1, c .before .before .before .before .before .before .before .pre .1, c .before .before .before .before .before .before .before .pre .2) (c .derive .ensures)
 
 returns-2 : tie.Need-returns-2
 unfolding extended advanced
-returns-2 c = rw (granted-second _ _ _ _ _ _, ← c .before .before .before .before .second-word .ensures, c .before .before .second2 .given .1, ← c .advance .ensures) refl
+returns-2 c = rw (granted-second _ _ _ _ _ _, ← c .before .before .before .before .before .before .before .pre .1, ← c .before .before .before .before .before .before .before .pre .2, ← c .before .before .before .before .second-word .ensures, c .before .before .second2 .given .1, ← c .advance .ensures) refl
 
 pub extend-spec : {M : Type 1} → statement M
 extend-spec =

@@ -10,11 +10,11 @@ use Rattle.prepare.proofs.prepare.Reads as reads
 use Rattle.prepare.proofs.prepare.Lts as lts
 use Rattle.decode.proofs.decode_with.Reads as decode-with-reads
 use Rattle.interrupt.proofs.fields.advance.Reads as advance-reads
+use Rattle.page.proofs.read.read_word.Reads as read-word-reads
 use Rattle.prepare.proofs.admit.Reads as admit-reads
-use Rattle.prepare.proofs.look.Reads as look-reads
 
-look-requires : tie.Need-look-requires
-look-requires c κs = search needs
+read-word-requires : tie.Need-read-word-requires
+read-word-requires c κs = search needs
 
 enum-known-first : tie.Need-enum-known-first
 enum-known-first c = search needs
@@ -33,17 +33,17 @@ advance-requires c κs = search needs
 
 returns : tie.Need-returns
 unfolding prepared fetched advanced mil1750
-returns c = rw (← c .before .before .before .before .before .look .ensures, c .before .before .before .first .given .1, ← c .before .decode-with .ensures) (c .admit .ensures)
+returns c = rw (← c .before .before .before .before .before .before .before .before .pre .1, ← c .before .before .before .before .before .before .before .before .pre .2, ← c .before .before .before .before .before .read-word .ensures, c .before .before .before .first .given .1, ← c .before .decode-with .ensures, c .before .before .before .before .before .before .before .before .pre .1, c .before .before .before .before .before .before .before .before .pre .2) (c .admit .ensures)
 
 returns-2 : tie.Need-returns-2
 unfolding prepared fetched advanced mil1750
-returns-2 c = rw (← c .before .before .before .before .look .ensures, c .before .before .first2 .given .1, ← c .advance .ensures) refl
+returns-2 c = rw (← c .before .before .before .before .before .before .before .pre .1, ← c .before .before .before .before .before .before .before .pre .2, ← c .before .before .before .before .read-word .ensures, c .before .before .first2 .given .1, ← c .advance .ensures) refl
 
 pub prepare-spec : {M : Type 1} → statement M
 prepare-spec =
     tie.close
     (tie.spec
-    look-requires
+    read-word-requires
     enum-known-first
     decode-with-requires
     admit-requires

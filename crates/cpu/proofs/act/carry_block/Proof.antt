@@ -1,6 +1,7 @@
 -- `cpu::act::carry_block` meets its contract. Assumes nothing.
 use mathlib.Core.Path.{_≡_, refl, sym, ap, _∙_}
-use Rattle.cpu.proofs.ActLaws.{carried-clear, carried-fault, failed, became-worked, block-user}
+use mathlib.Core.Bool.{false≢true}
+use Rattle.cpu.proofs.ActLaws.{carried-clear, carried-fault, failed, became-worked, block-user, settled-by}
 use Rattle.machine.specs.State.{joined}
 use Rattle.machine.specs.Instructions.{operated}
 use Rattle.isa.specs.Mil1750.{mil1750}
@@ -13,7 +14,9 @@ use Rattle.access.proofs.accesses.reads.Reads as reads-reads
 use Rattle.access.proofs.accesses.writes.Reads as writes-reads
 use Rattle.block.proofs.block.Reads as block-reads
 use Rattle.cpu.proofs.act.refuse.Reads as refuse-reads
+use Rattle.cpu.proofs.act.unsettled.Reads as unsettled-reads
 use Rattle.cpu.proofs.act.verify.Reads as verify-reads
+use Rattle.cpu.proofs.act.weighed.Reads as weighed-reads
 
 reads-requires : tie.Need-reads-requires
 reads-requires c κs = search needs
@@ -30,22 +33,28 @@ enum-told c = search needs
 block-requires : tie.Need-block-requires
 block-requires c κs = (c .before .before .before .before .before .before .before .before .before .before .before .pre .0, c .before .before .before .before .before .before .before .before .before .before .before .pre .1)
 
+weighed-requires : tie.Need-weighed-requires
+weighed-requires c κs = search needs
+
 enum-known-verdict : tie.Need-enum-known-verdict
 enum-known-verdict c = search needs
 
 refuse-requires : tie.Need-refuse-requires
 refuse-requires c κs = search needs
 
+unsettled-requires : tie.Need-unsettled-requires
+unsettled-requires c κs = search needs
+
 same-length : tie.Need-same-length
 same-length c = search needs
 
 returns : tie.Need-returns
 unfolding operated mil1750
-returns c = λ ports. rw (← carried-clear (joined (c .before .before .before .before .before .before .before .before .before .before .before .before .before .before .args .core) (c .before .before .before .before .before .before .before .before .before .before .before .before .before .before .args .regs .now)) (c .before .before .before .before .before .before .before .before .before .before .before .before .before .before .args .memory .now) (c .before .before .before .before .before .before .before .before .before .before .before .before .before .before .args .pages .now) ports (c .before .before .before .before .before .before .before .before .before .before .before .before .before .before .args .n) _ _ _ (c .before .before .before .before .before .before .before .before .before .before .reads .ensures .0) (c .before .before .before .before .before .before .before .before .writes .ensures .0) (c .before .before .before .before .before .before .before .verify .ensures) (c .before .before .before .before .before .enum-told .given .1), block-user _ (c .before .before .before .before .before .before .before .before .before .before .before .before .before .before .pre .1)) (became-worked (joined (c .before .before .before .before .before .before .before .before .before .before .before .before .before .before .args .core) (c .before .before .before .before .before .before .before .before .before .before .before .before .before .before .args .regs .now)) (c .before .before .before .before .before .before .before .before .before .before .before .before .before .before .args .memory .now) (c .before .before .before .before .before .before .before .before .before .before .before .before .before .before .args .pages .now) ports (c .before .before .before .before .before .before .before .before .before .before .before .before .before .before .args .n) _ _ _ (c .before .before .block .ensures))
+returns c = (λ ports. rw (c .weighed .ensures .0, ← carried-clear (joined (c .before .before .before .before .before .before .before .before .before .before .before .before .before .before .before .args .core) (c .before .before .before .before .before .before .before .before .before .before .before .before .before .before .before .args .regs .now)) (c .before .before .before .before .before .before .before .before .before .before .before .before .before .before .before .args .memory .now) (c .before .before .before .before .before .before .before .before .before .before .before .before .before .before .before .args .pages .now) ports (c .before .before .before .before .before .before .before .before .before .before .before .before .before .before .before .args .n) _ _ _ (c .before .before .before .before .before .before .before .before .before .before .before .reads .ensures .0) (c .before .before .before .before .before .before .before .before .before .writes .ensures .0) (c .before .before .before .before .before .before .before .before .verify .ensures) (c .before .before .before .before .before .before .enum-told .given .1), block-user _ (c .before .before .before .before .before .before .before .before .before .before .before .before .before .before .before .pre .1)) (became-worked (joined (c .before .before .before .before .before .before .before .before .before .before .before .before .before .before .before .args .core) (c .before .before .before .before .before .before .before .before .before .before .before .before .before .before .before .args .regs .now)) (c .before .before .before .before .before .before .before .before .before .before .before .before .before .before .before .args .memory .now) (c .before .before .before .before .before .before .before .before .before .before .before .before .before .before .before .args .pages .now) ports (c .before .before .before .before .before .before .before .before .before .before .before .before .before .before .before .args .n) _ _ _ (c .before .before .before .block .ensures)), settled-by (c .before .before .before .before .before .before .before .before .before .before .before .before .before .before .before .args .core) _ _ (c .before .before .before .before .before .before .before .before .before .before .before .before .before .before .before .args .regs .now) _ _ _ (c .weighed .ensures .0) (c .weighed .ensures .1) (c .before .before .before .block .ensures .state-is))
 
 returns-2 : tie.Need-returns-2
 unfolding operated mil1750
-returns-2 c = λ ports. rw (← carried-fault (joined (c .before .before .before .before .before .before .before .before .before .before .before .args .core) (c .before .before .before .before .before .before .before .before .before .before .before .args .regs .now)) (c .before .before .before .before .before .before .before .before .before .before .before .args .memory .now) (c .before .before .before .before .before .before .before .before .before .before .before .args .pages .now) ports (c .before .before .before .before .before .before .before .before .before .before .before .args .n) _ _ _ (c .before .before .before .before .before .before .before .reads .ensures .0) (c .before .before .before .before .before .writes .ensures .0) (c .before .before .before .before .verify .ensures) _ (c .before .before .verdict .given .1)) (failed (c .before .before .before .before .before .before .before .before .before .before .before .args .core) _ (c .before .before .before .before .before .before .before .before .before .before .before .args .regs .now) (c .before .before .before .before .before .before .before .before .before .before .before .args .memory .now) (c .before .before .before .before .before .before .before .before .before .before .before .args .pages .now) ports _ _ (c .refuse .ensures))
+returns-2 c = (λ ports. rw (c .unsettled .ensures .0, ← carried-fault (joined (c .before .before .before .before .before .before .before .before .before .before .before .before .args .core) (c .before .before .before .before .before .before .before .before .before .before .before .before .args .regs .now)) (c .before .before .before .before .before .before .before .before .before .before .before .before .args .memory .now) (c .before .before .before .before .before .before .before .before .before .before .before .before .args .pages .now) ports (c .before .before .before .before .before .before .before .before .before .before .before .before .args .n) _ _ _ (c .before .before .before .before .before .before .before .before .reads .ensures .0) (c .before .before .before .before .before .before .writes .ensures .0) (c .before .before .before .before .before .verify .ensures) _ (c .before .before .before .verdict .given .1)) (failed (c .before .before .before .before .before .before .before .before .before .before .before .before .args .core) _ (c .before .before .before .before .before .before .before .before .before .before .before .before .args .regs .now) (c .before .before .before .before .before .before .before .before .before .before .before .before .args .memory .now) (c .before .before .before .before .before .before .before .before .before .before .before .before .args .pages .now) ports _ _ (c .before .refuse .ensures)), λ h. absurd (false≢true (sym (c .unsettled .ensures .1) ∙ h)))
 
 pub carry-block-spec : {M : Type 1} → statement M
 carry-block-spec =
@@ -56,8 +65,10 @@ carry-block-spec =
     verify-requires
     enum-told
     block-requires
+    weighed-requires
     enum-known-verdict
     refuse-requires
+    unsettled-requires
     same-length
     returns
     returns-2)
