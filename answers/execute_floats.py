@@ -7,8 +7,7 @@ LAWS = 'Rattle.execute_floats.proofs.FloatEffects.'
 LEAVES = ['Rattle.float_add.specs.Add.{sumOf, differenceOf}', 'Rattle.float_mul.specs.Multiply.{productOf}', 'Rattle.float_div.specs.Divide.{quotientOf}',
           'Rattle.float_convert.specs.Convert.{negatedOf, absoluteOf}']
 A_FIELD, ACCUMULATOR = '@field-a .ensures .0', '@accumulator-of .ensures .0'
-# the bounds of both operands, as those that the arithmetic requires
-SORTED = '(@Start .pre .0, @Start .pre .2, @Start .pre .1, @Start .pre .3)'
+# the bounds of the operand alone
 LAST = '(@Start .pre .2, @Start .pre .3)'
 
 
@@ -24,18 +23,6 @@ def others(count):
 def both(w):
     bounds = ', '.join('@%s .ensures .1' % x for x in ('mantissa%d' % w, 'exponent', 'mantissa%d2' % w, 'exponent2'))
     return {'use': [OPERANDS + '{operands%d}' % w], 'unf': {'*': 'operands%d' % w}, 'returns': '(rw (@chain) refl, (%s))' % bounds}
-
-
-# the arithmetic on them
-def combine(w):
-    return {'use': [OPERANDS + '{arithmetic}'], 'unf': {'*': 'arithmetic'}, 'add%d-requires' % w: SORTED, 'subtract%d-requires' % w: SORTED,
-            'multiply%d-requires' % w: '@Start .pre', 'divide%d-requires' % w: '@Start .pre',
-            'returns': 'rw (@match .keys1) (@add%d .ensures)' % w, 'returns-2': 'rw (@match .keys2) (@subtract%d .ensures)' % w,
-            'returns-3': 'rw (@match .keys3) (@multiply%d .ensures)' % w, 'returns-4': 'rw (%s) (@divide%d .ensures)' % (others(3), w)}
-
-
-def compare(w):
-    return {'compare%d-requires' % w: '(@Start .pre .0, @Start .pre .2)', 'returns': '@compare%d .ensures' % w}
 
 
 # a float in registers: its words, its status and its faults folded back
@@ -63,7 +50,6 @@ def operations(rows):
             answer = 'rw (%s, %s) (%s _ _)' % (keys, ', '.join(steps), nth(shape))
         else:
             pair, value = nth(both), nth(leaf)
-            answers[suffixed(leaf + '-requires', calls[leaf])] = pair + ' .1'
             answer = 'rw (%s) (%s _ _ ∙ %s (%s .0) (%s))' % (keys, nth(shape), law, pair, value)
         answers[suffixed('returns', place)] = answer
     answers[suffixed('returns', len(rows) + 1)] = 'rw (%s) (@nothing .ensures _)' % others(len(rows))
@@ -72,7 +58,7 @@ def operations(rows):
 
 def combined(w, f):
     names = '_ ' * (7 if w == 24 else 8)
-    return ('combined%d-is (%s %d) %s(%s)' % (w, f, w, names, ACCUMULATOR if w == 24 else A_FIELD), 'both%d' % w, 'combine%d' % w, 'give%d' % w)
+    return ('combined%d-is (%s %d) %s(%s)' % (w, f, w, names, ACCUMULATOR if w == 24 else A_FIELD), 'both%d' % w, 'combine', 'give%d' % w)
 
 
 def changed(f):
@@ -82,12 +68,11 @@ def changed(f):
 A = {
     'operands/both24': both(24),
     'operands/both40': both(40),
-    'operands/combine24': combine(24),
-    'operands/combine40': combine(40),
+    'operands/combine': {'use': [OPERANDS + '{arithmetic}'], 'unf': {'*': 'arithmetic'},
+        'returns': 'rw (@match .keys1) (@add .ensures)', 'returns-2': 'rw (@match .keys2) (@subtract .ensures)',
+        'returns-3': 'rw (@match .keys3) (@multiply .ensures)', 'returns-4': 'rw (%s) (@divide .ensures)' % others(3)},
     'operands/change24': {'use': [OPERANDS + '{resigned}'], 'unf': {'*': 'resigned'}, 'absolute24-requires': LAST, 'negate24-requires': LAST,
         'returns': 'rw (@match .keys1) (@absolute24 .ensures)', 'returns-2': 'rw (%s) (@negate24 .ensures)' % others(1)},
-    'operands/compare_both24': compare(24),
-    'operands/compare_both40': compare(40),
     'results/give24': shape(24, 'first-word second-word status float-faults', 'result2'),
     'results/give40': shape(40, 'first-word second-word third-word status float-faults', 'result3'),
     'results/to_integer': {'use': [LAWS + '{integer-is}'], 'fix24-requires': '@both24 .ensures .1 .2',
@@ -98,5 +83,5 @@ A = {
         combined(24, 'sumOf'), combined(40, 'sumOf'), changed('absoluteOf'), combined(24, 'differenceOf'), combined(40, 'differenceOf'), changed('negatedOf'),
         combined(24, 'productOf'), combined(40, 'productOf'), combined(24, 'quotientOf'), combined(40, 'quotientOf'),
         ('call', '', '', 'to-integer'), ('convert', 'operand-of', 'float24', 'give24'), ('call', '', '', 'to-double-integer'), ('convert', 'double-operand', 'float40', 'give40'),
-        ('compared24-is _ _ _ _ _ _', 'both24', 'compare-both24', 'tested'), ('compared40-is _ _ _ _ _ _ _', 'both40', 'compare-both40', 'tested')]),
+        ('compared24-is _ _ _ _ _ _', 'both24', 'compare-both', 'tested'), ('compared40-is _ _ _ _ _ _ _', 'both40', 'compare-both', 'tested')]),
 }

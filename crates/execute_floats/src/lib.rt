@@ -6,10 +6,8 @@ ghost use Rattle.effect.specs.Work.{context, worked};
 use crate::operands::both24;
 use crate::operands::both40;
 use crate::operands::change24;
-use crate::operands::combine24;
-use crate::operands::combine40;
-use crate::operands::compare_both24;
-use crate::operands::compare_both40;
+use crate::operands::combine;
+use crate::operands::compare_both;
 use crate::results::give24;
 use crate::results::give40;
 use crate::results::to_double_integer;
@@ -53,22 +51,22 @@ pub fn float_operation(
     let a = field_a(n.first);
     let k = accumulator_of(n);
     match n.form % 256 {
-        60 => give24(ic, pi, n, k, combine24(60, both24(regs, n, x, y))),
-        61 => give40(ic, pi, n, a, combine40(60, both40(regs, n, x, y, z))),
+        60 => give24(ic, pi, n, k, combine(24, 60, both24(regs, n, x, y))),
+        61 => give40(ic, pi, n, a, combine(40, 60, both40(regs, n, x, y, z))),
         62 => give24(ic, pi, n, a, change24(62, both24(regs, n, x, y))),
-        68 => give24(ic, pi, n, k, combine24(68, both24(regs, n, x, y))),
-        69 => give40(ic, pi, n, a, combine40(68, both40(regs, n, x, y, z))),
+        68 => give24(ic, pi, n, k, combine(24, 68, both24(regs, n, x, y))),
+        69 => give40(ic, pi, n, a, combine(40, 68, both40(regs, n, x, y, z))),
         70 => give24(ic, pi, n, a, change24(70, both24(regs, n, x, y))),
-        74 => give24(ic, pi, n, k, combine24(74, both24(regs, n, x, y))),
-        75 => give40(ic, pi, n, a, combine40(74, both40(regs, n, x, y, z))),
-        79 => give24(ic, pi, n, k, combine24(79, both24(regs, n, x, y))),
-        80 => give40(ic, pi, n, a, combine40(79, both40(regs, n, x, y, z))),
+        74 => give24(ic, pi, n, k, combine(24, 74, both24(regs, n, x, y))),
+        75 => give40(ic, pi, n, a, combine(40, 74, both40(regs, n, x, y, z))),
+        79 => give24(ic, pi, n, k, combine(24, 79, both24(regs, n, x, y))),
+        80 => give40(ic, pi, n, a, combine(40, 79, both40(regs, n, x, y, z))),
         85 => to_integer(regs, ic, pi, n, x, y),
         86 => give24(ic, pi, n, a, float24(operand_of(regs, n, x))),
         87 => to_double_integer(regs, ic, pi, n, x, y, z),
         88 => give40(ic, pi, n, a, float40(double_operand(regs, n, x, y))),
-        94 => tested(ic, pi, n, compare_both24(both24(regs, n, x, y))),
-        95 => tested(ic, pi, n, compare_both40(both40(regs, n, x, y, z))),
+        94 => tested(ic, pi, n, compare_both(24, both24(regs, n, x, y))),
+        95 => tested(ic, pi, n, compare_both(40, both40(regs, n, x, y, z))),
         _ => nothing(ic, sw, pi, n),
     }
 }

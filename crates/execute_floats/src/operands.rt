@@ -1,5 +1,6 @@
 // The two floats that an operation works on, and the arithmetic on them.
 ghost use mathlib.Core.Path.{_≡_};
+ghost use Prim.Native.Nat.{_≤_};
 ghost use Rattle.whole.specs.Whole.{signed};
 ghost use Rattle.float.specs.Float.{given};
 ghost use Rattle.float_convert.specs.Convert.{comparedOf};
@@ -13,18 +14,13 @@ use float::Float;
 use float::packing::exponent;
 use float::packing::mantissa24;
 use float::packing::mantissa40;
-use float_add::add24;
-use float_add::add40;
-use float_add::subtract24;
-use float_add::subtract40;
-use float_convert::compare::compare24;
-use float_convert::compare::compare40;
+use float_add::steps::add;
+use float_add::steps::subtract;
+use float_convert::compare::compare;
 use float_convert::sign::absolute24;
 use float_convert::sign::negate24;
-use float_div::divide24;
-use float_div::divide40;
-use float_mul::multiply24;
-use float_mul::multiply40;
+use float_div::divide;
+use float_mul::multiply;
 use machine::Instruction;
 
 // The accumulator and the operand, with mantissas of 24 bits.
@@ -57,29 +53,16 @@ pub fn both40(regs: &[u16; 16], n: Instruction, x: u16, y: u16, z: u16) -> Both
     }
 }
 
-// Sum, difference, product or quotient, by its paragraph; every pair of operands that is made here has mantissas and exponents of this width.
-pub fn combine24(operation: u16, p: Both) -> Float
-    requires { ⌜ Within 24 p ⌝ }
-    ensures { λ r. ⌜ r ≡ given 24 (arithmetic 24 operation p) ⌝ }
+// Sum, difference, product or quotient, by its paragraph for 24 bits; the width is 24 or 40, and the operands are made here with mantissas of this width.
+pub fn combine(w: u32, operation: u16, p: Both) -> Float
+    requires { ⌜ (2 ≤ w) × (w ≤ 40) × Within w p ⌝ }
+    ensures { λ r. ⌜ r ≡ given w (arithmetic w operation p) ⌝ }
 {
     match operation {
-        60 => add24(p.a, p.ea, p.b, p.eb),
-        68 => subtract24(p.a, p.ea, p.b, p.eb),
-        74 => multiply24(p.a, p.ea, p.b, p.eb),
-        _ => divide24(p.a, p.ea, p.b, p.eb),
-    }
-}
-
-// The same at 40 bits, by the paragraph for 24.
-pub fn combine40(operation: u16, p: Both) -> Float
-    requires { ⌜ Within 40 p ⌝ }
-    ensures { λ r. ⌜ r ≡ given 40 (arithmetic 40 operation p) ⌝ }
-{
-    match operation {
-        60 => add40(p.a, p.ea, p.b, p.eb),
-        68 => subtract40(p.a, p.ea, p.b, p.eb),
-        74 => multiply40(p.a, p.ea, p.b, p.eb),
-        _ => divide40(p.a, p.ea, p.b, p.eb),
+        60 => add(w, p.a, p.ea, p.b, p.eb),
+        68 => subtract(w, p.a, p.ea, p.b, p.eb),
+        74 => multiply(w, p.a, p.ea, p.b, p.eb),
+        _ => divide(w, p.a, p.ea, p.b, p.eb),
     }
 }
 
@@ -94,18 +77,10 @@ pub fn change24(operation: u16, p: Both) -> Float
     }
 }
 
-// CS of a comparison at 24 bits.
-pub fn compare_both24(p: Both) -> u16
-    requires { ⌜ Within 24 p ⌝ }
-    ensures { λ r. ⌜ r ≡ comparedOf (signed 24 (p .a)) (p .ea) (signed 24 (p .b)) (p .eb) ⌝ }
+// CS of a comparison.
+pub fn compare_both(w: u32, p: Both) -> u16
+    requires { ⌜ (2 ≤ w) × (w ≤ 40) × Within w p ⌝ }
+    ensures { λ r. ⌜ r ≡ comparedOf (signed w (p .a)) (p .ea) (signed w (p .b)) (p .eb) ⌝ }
 {
-    compare24(p.a, p.ea, p.b, p.eb)
-}
-
-// At 40 bits.
-pub fn compare_both40(p: Both) -> u16
-    requires { ⌜ Within 40 p ⌝ }
-    ensures { λ r. ⌜ r ≡ comparedOf (signed 40 (p .a)) (p .ea) (signed 40 (p .b)) (p .eb) ⌝ }
-{
-    compare40(p.a, p.ea, p.b, p.eb)
+    compare(w, p.a, p.ea, p.b, p.eb)
 }

@@ -5,7 +5,7 @@ ghost use Rattle.whole.specs.Whole.{signed};
 ghost use Rattle.float_convert.specs.Convert.{comparedOf};
 use float::mantissa;
 
-// At any width from 2 to 62. The mantissa of smaller exponent is shifted right; where the two are equal then, the bits that were lost decide.
+// FC, EFC, at any width from 2 to 62. The mantissa of smaller exponent is shifted right; where the two are equal then, the bits that were lost decide.
 pub fn compare(w: u32, a: u64, ea: u32, b: u64, eb: u32) -> u16
     requires { ⌜ (2 ≤ w) × (w ≤ 62) × (a < 2 ^ w) × (b < 2 ^ w) ⌝ }
     ensures { λ r. ⌜ r ≡ comparedOf (signed w a) ea (signed w b) eb ⌝ }
@@ -27,20 +27,4 @@ pub fn compare(w: u32, a: u64, ea: u32, b: u64, eb: u32) -> u16
         return 1;
     }
     2
-}
-
-// FC (5.94)
-pub fn compare24(a: u64, ea: u32, b: u64, eb: u32) -> u16
-    requires { ⌜ (a < 2 ^ 24) × (b < 2 ^ 24) ⌝ }
-    ensures { λ r. ⌜ r ≡ comparedOf (signed 24 a) ea (signed 24 b) eb ⌝ }
-{
-    compare(24, a, ea, b, eb)
-}
-
-// EFC (5.95)
-pub fn compare40(a: u64, ea: u32, b: u64, eb: u32) -> u16
-    requires { ⌜ (a < 2 ^ 40) × (b < 2 ^ 40) ⌝ }
-    ensures { λ r. ⌜ r ≡ comparedOf (signed 40 a) ea (signed 40 b) eb ⌝ }
-{
-    compare(40, a, ea, b, eb)
 }

@@ -11,7 +11,8 @@ use exact::largest;
 use exact::lead;
 use exact::magnitude;
 use exact::signs_differ;
-use exact::upper24;
+use exact::upper;
+use exact::wider;
 use exact::zero;
 use float::Float;
 
@@ -25,8 +26,8 @@ fn quotient(a: u64, b: u64, neg: bool) -> u64
     n / b * 0x10_0000 + low / b - 1
 }
 
-// The quotient with a mantissa of 40 bits (5.80).
-pub fn divide40(a: u64, ea: u32, b: u64, eb: u32) -> Float
+// The quotient with a mantissa of 40 bits.
+fn divide40(a: u64, ea: u32, b: u64, eb: u32) -> Float
     requires { ⌜ (a < 2 ^ 40) × (ea < 256) × (b < 2 ^ 40) × (eb < 256) ⌝ }
     ensures { λ r. ⌜ r ≡ given 40 (quotientOf 40 (signed 40 a) ea (signed 40 b) eb) ⌝ }
 {
@@ -54,10 +55,14 @@ pub fn divide40(a: u64, ea: u32, b: u64, eb: u32) -> Float
     finish(neg, q, ea + y.shift + 127, eb + x.shift)
 }
 
-// The quotient with a mantissa of 24 bits (5.79): the upper part of that with 40.
-pub fn divide24(a: u64, ea: u32, b: u64, eb: u32) -> Float
-    requires { ⌜ (a < 2 ^ 24) × (ea < 256) × (b < 2 ^ 24) × (eb < 256) ⌝ }
-    ensures { λ r. ⌜ r ≡ given 24 (quotientOf 24 (signed 24 a) ea (signed 24 b) eb) ⌝ }
+// The quotient with a mantissa of w bits (5.79, 5.80): the upper part of that with 40. Of the two calls neither is inlined, so that `divide` itself is,
+// at a constant width.
+pub fn divide(w: u32, a: u64, ea: u32, b: u64, eb: u32) -> Float
+    requires { ⌜ (2 ≤ w) × (w ≤ 40) × (a < 2 ^ w) × (b < 2 ^ w) × (ea < 256) × (eb < 256) ⌝ }
+    ensures { λ r. ⌜ r ≡ given w (quotientOf w (signed w a) ea (signed w b) eb) ⌝ }
 {
-    upper24(divide40(a * 0x1_0000, ea, b * 0x1_0000, eb))
+    if w == 40 {
+        return divide40(a, ea, b, eb);
+    }
+    upper(w, divide40(wider(w, a), ea, wider(w, b), eb))
 }

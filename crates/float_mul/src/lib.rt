@@ -10,7 +10,8 @@ use exact::finish;
 use exact::largest;
 use exact::lead;
 use exact::signs_differ;
-use exact::upper24;
+use exact::upper;
+use exact::wider;
 use exact::zero;
 use float::Float;
 
@@ -23,8 +24,8 @@ fn product(a: u64, b: u64, neg: bool) -> u64
     a / 0x10_0000 * b + low / 0x10_0000 - 1
 }
 
-// The product with a mantissa of 40 bits (5.75).
-pub fn multiply40(a: u64, ea: u32, b: u64, eb: u32) -> Float
+// The product with a mantissa of 40 bits.
+fn multiply40(a: u64, ea: u32, b: u64, eb: u32) -> Float
     requires { ⌜ (a < 2 ^ 40) × (ea < 256) × (b < 2 ^ 40) × (eb < 256) ⌝ }
     ensures { λ r. ⌜ r ≡ given 40 (productOf 40 (signed 40 a) ea (signed 40 b) eb) ⌝ }
 {
@@ -50,10 +51,10 @@ pub fn multiply40(a: u64, ea: u32, b: u64, eb: u32) -> Float
     finish(neg, q, n, x.shift + y.shift + 147)
 }
 
-// The product with a mantissa of 24 bits (5.74): the upper part of that with 40.
-pub fn multiply24(a: u64, ea: u32, b: u64, eb: u32) -> Float
-    requires { ⌜ (a < 2 ^ 24) × (ea < 256) × (b < 2 ^ 24) × (eb < 256) ⌝ }
-    ensures { λ r. ⌜ r ≡ given 24 (productOf 24 (signed 24 a) ea (signed 24 b) eb) ⌝ }
+// The product with a mantissa of w bits (5.74, 5.75): the upper part of that with 40.
+pub fn multiply(w: u32, a: u64, ea: u32, b: u64, eb: u32) -> Float
+    requires { ⌜ (2 ≤ w) × (w ≤ 40) × (a < 2 ^ w) × (b < 2 ^ w) × (ea < 256) × (eb < 256) ⌝ }
+    ensures { λ r. ⌜ r ≡ given w (productOf w (signed w a) ea (signed w b) eb) ⌝ }
 {
-    upper24(multiply40(a * 0x1_0000, ea, b * 0x1_0000, eb))
+    upper(w, multiply40(wider(w, a), ea, wider(w, b), eb))
 }

@@ -23,8 +23,8 @@ accumulator-of-requires c κs = search needs
 both24-requires : tie.Need-both24-requires
 both24-requires c κs = search needs
 
-combine24-requires : tie.Need-combine24-requires
-combine24-requires c κs = c .both24 .ensures .1
+combine-requires : tie.Need-combine-requires
+combine-requires c κs = search needs
 
 give24-requires : tie.Need-give24-requires
 give24-requires c κs = search needs
@@ -32,8 +32,8 @@ give24-requires c κs = search needs
 both40-requires : tie.Need-both40-requires
 both40-requires c κs = search needs
 
-combine40-requires : tie.Need-combine40-requires
-combine40-requires c κs = c .both40 .ensures .1
+combine-requires-2 : tie.Need-combine-requires-2
+combine-requires-2 c κs = search needs
 
 give40-requires : tie.Need-give40-requires
 give40-requires c κs = search needs
@@ -42,7 +42,7 @@ both24-requires-2 : tie.Need-both24-requires-2
 both24-requires-2 c κs = search needs
 
 change24-requires : tie.Need-change24-requires
-change24-requires c κs = c .both242 .ensures .1
+change24-requires c κs = search needs
 
 give24-requires-2 : tie.Need-give24-requires-2
 give24-requires-2 c κs = search needs
@@ -50,8 +50,8 @@ give24-requires-2 c κs = search needs
 both24-requires-3 : tie.Need-both24-requires-3
 both24-requires-3 c κs = search needs
 
-combine24-requires-2 : tie.Need-combine24-requires-2
-combine24-requires-2 c κs = c .both243 .ensures .1
+combine-requires-3 : tie.Need-combine-requires-3
+combine-requires-3 c κs = search needs
 
 give24-requires-3 : tie.Need-give24-requires-3
 give24-requires-3 c κs = search needs
@@ -59,8 +59,8 @@ give24-requires-3 c κs = search needs
 both40-requires-2 : tie.Need-both40-requires-2
 both40-requires-2 c κs = search needs
 
-combine40-requires-2 : tie.Need-combine40-requires-2
-combine40-requires-2 c κs = c .both402 .ensures .1
+combine-requires-4 : tie.Need-combine-requires-4
+combine-requires-4 c κs = search needs
 
 give40-requires-2 : tie.Need-give40-requires-2
 give40-requires-2 c κs = search needs
@@ -69,7 +69,7 @@ both24-requires-4 : tie.Need-both24-requires-4
 both24-requires-4 c κs = search needs
 
 change24-requires-2 : tie.Need-change24-requires-2
-change24-requires-2 c κs = c .both244 .ensures .1
+change24-requires-2 c κs = search needs
 
 give24-requires-4 : tie.Need-give24-requires-4
 give24-requires-4 c κs = search needs
@@ -77,8 +77,8 @@ give24-requires-4 c κs = search needs
 both24-requires-5 : tie.Need-both24-requires-5
 both24-requires-5 c κs = search needs
 
-combine24-requires-3 : tie.Need-combine24-requires-3
-combine24-requires-3 c κs = c .both245 .ensures .1
+combine-requires-5 : tie.Need-combine-requires-5
+combine-requires-5 c κs = search needs
 
 give24-requires-5 : tie.Need-give24-requires-5
 give24-requires-5 c κs = search needs
@@ -86,8 +86,8 @@ give24-requires-5 c κs = search needs
 both40-requires-3 : tie.Need-both40-requires-3
 both40-requires-3 c κs = search needs
 
-combine40-requires-3 : tie.Need-combine40-requires-3
-combine40-requires-3 c κs = c .both403 .ensures .1
+combine-requires-6 : tie.Need-combine-requires-6
+combine-requires-6 c κs = search needs
 
 give40-requires-3 : tie.Need-give40-requires-3
 give40-requires-3 c κs = search needs
@@ -95,8 +95,8 @@ give40-requires-3 c κs = search needs
 both24-requires-6 : tie.Need-both24-requires-6
 both24-requires-6 c κs = search needs
 
-combine24-requires-4 : tie.Need-combine24-requires-4
-combine24-requires-4 c κs = c .both246 .ensures .1
+combine-requires-7 : tie.Need-combine-requires-7
+combine-requires-7 c κs = search needs
 
 give24-requires-6 : tie.Need-give24-requires-6
 give24-requires-6 c κs = search needs
@@ -104,8 +104,8 @@ give24-requires-6 c κs = search needs
 both40-requires-4 : tie.Need-both40-requires-4
 both40-requires-4 c κs = search needs
 
-combine40-requires-4 : tie.Need-combine40-requires-4
-combine40-requires-4 c κs = c .both404 .ensures .1
+combine-requires-8 : tie.Need-combine-requires-8
+combine-requires-8 c κs = search needs
 
 give40-requires-4 : tie.Need-give40-requires-4
 give40-requires-4 c κs = search needs
@@ -137,8 +137,8 @@ give40-requires-5 c κs = search needs
 both24-requires-7 : tie.Need-both24-requires-7
 both24-requires-7 c κs = search needs
 
-compare-both24-requires : tie.Need-compare-both24-requires
-compare-both24-requires c κs = c .both247 .ensures .1
+compare-both-requires : tie.Need-compare-both-requires
+compare-both-requires c κs = search needs
 
 tested-requires : tie.Need-tested-requires
 tested-requires c κs = search needs
@@ -146,8 +146,8 @@ tested-requires c κs = search needs
 both40-requires-5 : tie.Need-both40-requires-5
 both40-requires-5 c κs = search needs
 
-compare-both40-requires : tie.Need-compare-both40-requires
-compare-both40-requires c κs = c .both405 .ensures .1
+compare-both-requires-2 : tie.Need-compare-both-requires-2
+compare-both-requires-2 c κs = search needs
 
 tested-requires-2 : tie.Need-tested-requires-2
 tested-requires-2 c κs = search needs
@@ -157,11 +157,11 @@ nothing-requires c κs = search needs
 
 returns : tie.Need-returns
 unfolding floatOperation arithmetic resigned
-returns c = rw (c .before .before .before .match .keys1) (c .give24 .ensures _ _ ∙ combined24-is (sumOf 24) _ _ _ _ _ _ _ (c .before .before .before .before .before .accumulator-of .ensures .0) (c .before .before .both24 .ensures .0) (c .before .combine24 .ensures))
+returns c = rw (c .before .before .before .match .keys1) (c .give24 .ensures _ _ ∙ combined24-is (sumOf 24) _ _ _ _ _ _ _ (c .before .before .before .before .before .accumulator-of .ensures .0) (c .before .before .both24 .ensures .0) (c .before .combine .ensures))
 
 returns-2 : tie.Need-returns-2
 unfolding floatOperation arithmetic resigned
-returns-2 c = rw (c .before .before .before .match .keys2) (c .give40 .ensures _ _ ∙ combined40-is (sumOf 40) _ _ _ _ _ _ _ _ (c .before .before .before .before .before .before .field-a .ensures .0) (c .before .before .both40 .ensures .0) (c .before .combine40 .ensures))
+returns-2 c = rw (c .before .before .before .match .keys2) (c .give40 .ensures _ _ ∙ combined40-is (sumOf 40) _ _ _ _ _ _ _ _ (c .before .before .before .before .before .before .field-a .ensures .0) (c .before .before .both40 .ensures .0) (c .before .combine2 .ensures))
 
 returns-3 : tie.Need-returns-3
 unfolding floatOperation arithmetic resigned
@@ -169,11 +169,11 @@ returns-3 c = rw (c .before .before .before .match .keys3) (c .give242 .ensures 
 
 returns-4 : tie.Need-returns-4
 unfolding floatOperation arithmetic resigned
-returns-4 c = rw (c .before .before .before .match .keys4) (c .give243 .ensures _ _ ∙ combined24-is (differenceOf 24) _ _ _ _ _ _ _ (c .before .before .before .before .before .accumulator-of .ensures .0) (c .before .before .both243 .ensures .0) (c .before .combine242 .ensures))
+returns-4 c = rw (c .before .before .before .match .keys4) (c .give243 .ensures _ _ ∙ combined24-is (differenceOf 24) _ _ _ _ _ _ _ (c .before .before .before .before .before .accumulator-of .ensures .0) (c .before .before .both243 .ensures .0) (c .before .combine3 .ensures))
 
 returns-5 : tie.Need-returns-5
 unfolding floatOperation arithmetic resigned
-returns-5 c = rw (c .before .before .before .match .keys5) (c .give402 .ensures _ _ ∙ combined40-is (differenceOf 40) _ _ _ _ _ _ _ _ (c .before .before .before .before .before .before .field-a .ensures .0) (c .before .before .both402 .ensures .0) (c .before .combine402 .ensures))
+returns-5 c = rw (c .before .before .before .match .keys5) (c .give402 .ensures _ _ ∙ combined40-is (differenceOf 40) _ _ _ _ _ _ _ _ (c .before .before .before .before .before .before .field-a .ensures .0) (c .before .before .both402 .ensures .0) (c .before .combine4 .ensures))
 
 returns-6 : tie.Need-returns-6
 unfolding floatOperation arithmetic resigned
@@ -181,19 +181,19 @@ returns-6 c = rw (c .before .before .before .match .keys6) (c .give244 .ensures 
 
 returns-7 : tie.Need-returns-7
 unfolding floatOperation arithmetic resigned
-returns-7 c = rw (c .before .before .before .match .keys7) (c .give245 .ensures _ _ ∙ combined24-is (productOf 24) _ _ _ _ _ _ _ (c .before .before .before .before .before .accumulator-of .ensures .0) (c .before .before .both245 .ensures .0) (c .before .combine243 .ensures))
+returns-7 c = rw (c .before .before .before .match .keys7) (c .give245 .ensures _ _ ∙ combined24-is (productOf 24) _ _ _ _ _ _ _ (c .before .before .before .before .before .accumulator-of .ensures .0) (c .before .before .both245 .ensures .0) (c .before .combine5 .ensures))
 
 returns-8 : tie.Need-returns-8
 unfolding floatOperation arithmetic resigned
-returns-8 c = rw (c .before .before .before .match .keys8) (c .give403 .ensures _ _ ∙ combined40-is (productOf 40) _ _ _ _ _ _ _ _ (c .before .before .before .before .before .before .field-a .ensures .0) (c .before .before .both403 .ensures .0) (c .before .combine403 .ensures))
+returns-8 c = rw (c .before .before .before .match .keys8) (c .give403 .ensures _ _ ∙ combined40-is (productOf 40) _ _ _ _ _ _ _ _ (c .before .before .before .before .before .before .field-a .ensures .0) (c .before .before .both403 .ensures .0) (c .before .combine6 .ensures))
 
 returns-9 : tie.Need-returns-9
 unfolding floatOperation arithmetic resigned
-returns-9 c = rw (c .before .before .before .match .keys9) (c .give246 .ensures _ _ ∙ combined24-is (quotientOf 24) _ _ _ _ _ _ _ (c .before .before .before .before .before .accumulator-of .ensures .0) (c .before .before .both246 .ensures .0) (c .before .combine244 .ensures))
+returns-9 c = rw (c .before .before .before .match .keys9) (c .give246 .ensures _ _ ∙ combined24-is (quotientOf 24) _ _ _ _ _ _ _ (c .before .before .before .before .before .accumulator-of .ensures .0) (c .before .before .both246 .ensures .0) (c .before .combine7 .ensures))
 
 returns-10 : tie.Need-returns-10
 unfolding floatOperation arithmetic resigned
-returns-10 c = rw (c .before .before .before .match .keys10) (c .give404 .ensures _ _ ∙ combined40-is (quotientOf 40) _ _ _ _ _ _ _ _ (c .before .before .before .before .before .before .field-a .ensures .0) (c .before .before .both404 .ensures .0) (c .before .combine404 .ensures))
+returns-10 c = rw (c .before .before .before .match .keys10) (c .give404 .ensures _ _ ∙ combined40-is (quotientOf 40) _ _ _ _ _ _ _ _ (c .before .before .before .before .before .before .field-a .ensures .0) (c .before .before .both404 .ensures .0) (c .before .combine8 .ensures))
 
 returns-11 : tie.Need-returns-11
 unfolding floatOperation arithmetic resigned
@@ -213,11 +213,11 @@ returns-14 c = rw (c .before .before .before .match .keys14, ← c .before .befo
 
 returns-15 : tie.Need-returns-15
 unfolding floatOperation arithmetic resigned
-returns-15 c = rw (c .before .before .before .match .keys15) (c .tested .ensures _ _ ∙ compared24-is _ _ _ _ _ _ (c .before .before .both247 .ensures .0) (c .before .compare-both24 .ensures))
+returns-15 c = rw (c .before .before .before .match .keys15) (c .tested .ensures _ _ ∙ compared24-is _ _ _ _ _ _ (c .before .before .both247 .ensures .0) (c .before .compare-both .ensures))
 
 returns-16 : tie.Need-returns-16
 unfolding floatOperation arithmetic resigned
-returns-16 c = rw (c .before .before .before .match .keys16) (c .tested2 .ensures _ _ ∙ compared40-is _ _ _ _ _ _ _ (c .before .before .both405 .ensures .0) (c .before .compare-both40 .ensures))
+returns-16 c = rw (c .before .before .before .match .keys16) (c .tested2 .ensures _ _ ∙ compared40-is _ _ _ _ _ _ _ (c .before .before .both405 .ensures .0) (c .before .compare-both2 .ensures))
 
 returns-17 : tie.Need-returns-17
 unfolding floatOperation arithmetic resigned
@@ -230,34 +230,34 @@ float-operation-spec =
     field-a-requires
     accumulator-of-requires
     both24-requires
-    combine24-requires
+    combine-requires
     give24-requires
     both40-requires
-    combine40-requires
+    combine-requires-2
     give40-requires
     both24-requires-2
     change24-requires
     give24-requires-2
     both24-requires-3
-    combine24-requires-2
+    combine-requires-3
     give24-requires-3
     both40-requires-2
-    combine40-requires-2
+    combine-requires-4
     give40-requires-2
     both24-requires-4
     change24-requires-2
     give24-requires-4
     both24-requires-5
-    combine24-requires-3
+    combine-requires-5
     give24-requires-5
     both40-requires-3
-    combine40-requires-3
+    combine-requires-6
     give40-requires-3
     both24-requires-6
-    combine24-requires-4
+    combine-requires-7
     give24-requires-6
     both40-requires-4
-    combine40-requires-4
+    combine-requires-8
     give40-requires-4
     to-integer-requires
     operand-of-requires
@@ -268,10 +268,10 @@ float-operation-spec =
     float40-requires
     give40-requires-5
     both24-requires-7
-    compare-both24-requires
+    compare-both-requires
     tested-requires
     both40-requires-5
-    compare-both40-requires
+    compare-both-requires-2
     tested-requires-2
     nothing-requires
     returns

@@ -1,0 +1,50 @@
+-- `execute_floats::operands::combine` meets its contract. Assumes nothing.
+use Rattle.execute_floats.specs.Operands.{arithmetic}
+use mathlib.Core.Path.{_≡_, refl, sym, ap, _∙_}
+use Prim.Native.Nat.{_/_, _%_, _+_}
+use borrow.Author.Tests.{ne-eqb}
+use native.Mathlib.Omega.{arith}
+use borrow.Author.Needs.{needs}
+use Rattle.execute_floats.proofs.operands.combine.Statement.{statement}
+use Rattle.execute_floats.proofs.operands.combine.Tie as tie
+
+add-requires : tie.Need-add-requires
+add-requires c κs = search needs
+
+subtract-requires : tie.Need-subtract-requires
+subtract-requires c κs = search needs
+
+multiply-requires : tie.Need-multiply-requires
+multiply-requires c κs = search needs
+
+divide-requires : tie.Need-divide-requires
+divide-requires c κs = search needs
+
+returns : tie.Need-returns
+unfolding arithmetic
+returns c = rw (c .before .match .keys1) (c .add .ensures)
+
+returns-2 : tie.Need-returns-2
+unfolding arithmetic
+returns-2 c = rw (c .before .match .keys2) (c .subtract .ensures)
+
+returns-3 : tie.Need-returns-3
+unfolding arithmetic
+returns-3 c = rw (c .before .match .keys3) (c .multiply .ensures)
+
+returns-4 : tie.Need-returns-4
+unfolding arithmetic
+returns-4 c = rw (ne-eqb _ _ (c .before .match .rest .0 .0 .1), ne-eqb _ _ (c .before .match .rest .0 .1), ne-eqb _ _ (c .before .match .rest .1)) (c .divide .ensures)
+
+pub combine-spec : {M : Type 1} → statement M
+combine-spec =
+    tie.close
+    (tie.spec
+    add-requires
+    subtract-requires
+    multiply-requires
+    divide-requires
+    returns
+    returns-2
+    returns-3
+    returns-4)
