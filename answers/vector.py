@@ -7,7 +7,6 @@ TESTS = 'borrow.Author.Tests.{eq-eqb, ne-eqb, lt-ltb, le-ltb, le-leb, lt-leb}'
 OTHERWISE = 'Rattle.choice.proofs.SelectLaws.{otherwise}'
 LINES = 'Rattle.vector.specs.Lines.'
 FIELDS = 'Rattle.vector.specs.Fields.'
-STATE = 'Rattle.machine.specs.State.'
 TEXTS = 'Rattle.vector.specs.Texts.'
 LAWS = 'Rattle.report.proofs.WroteLaws.'
 
@@ -49,11 +48,6 @@ def with_words(n, steps):
     return 'rw (%s) refl' % ', '.join(steps[:5] + read + steps[5:6] + limit + steps[6:])
 
 
-# a state with one word changed, here or by a call
-def changed(calls):
-    return lambda n, steps: 'rw (%s) %s' % (', '.join(steps), '(%s)' % calls[n] if n in calls else 'refl')
-
-
 # the texts of calls one after another
 def texts(*calls):
     first, rest = '@%s .ensures .0' % calls[0], calls[1:]
@@ -63,9 +57,6 @@ def texts(*calls):
 def line(unfolds, *calls, back=''):
     return {'use': [OMEGA, EQUATIONS, LAWS + '{then, whole}', TEXTS + '{%s}' % unfolds], 'unf': {'*': unfolds}, 'returns': back + '(whole (%s))' % texts(*calls)}
 
-
-SETTERS = 'withRegs withIc withSw withMk withPi withFt withEnabled withHold withTa withTb withTaOn withTbOn withCount'
-SETS = STATE + '{%s}' % SETTERS.replace(' ', ', ')
 
 A = {
     'lines/digit': {'use': [EQUATIONS, OMEGA, TESTS, LINES + '{digitOf}'], 'unf': {'*': 'digitOf'},
@@ -78,20 +69,10 @@ A = {
         **tested('≠==', bounded)},
     'lines/read': {'use': [EQUATIONS, OMEGA, TESTS, LINES + '{entryOf, lineOf}'], 'unf': {'*': 'entryOf lineOf'},
         **tested('==≠≠≠≤<', with_words)},
-    'set/put': {'use': [EQUATIONS, 'lib.Seq.{set-out}'], 'returns-2': 'sym (set-out _ _ _ (@if1 .left))'},
-    'set/register': {'use': [EQUATIONS, STATE + '{withRegs}'], 'unf': {'*': 'withRegs'}, 'returns': 'refl'},
-    'set/marks': {'use': [EQUATIONS, SETS, FIELDS + '{withMarks}'], 'unf': {'*': 'withMarks ' + SETTERS}, 'returns': 'refl'},
-    'set/high': {'use': [EQUATIONS, SETS, FIELDS + '{withHigh}'], 'unf': {'*': 'withHigh withCount'}, 'returns': 'refl'},
-    'set/low': {'use': [EQUATIONS, SETS, FIELDS + '{withLow}'], 'unf': {'*': 'withLow withCount'}, 'returns': 'refl'},
-    'set/later': {'use': [EQUATIONS, TESTS, SETS, FIELDS + '{withLater}'], 'unf': {'*': 'withLater withTa withTb'},
-        **tested('=====', changed({0: '@marks .ensures', 3: '@high .ensures', 4: '@low .ensures'}))},
-    'set/state': {'use': [EQUATIONS, TESTS, SETS, FIELDS + '{withWord}'], 'unf': {'*': 'withWord withIc withSw withMk withPi withFt'},
-        **tested('<=====', changed({0: '@register .ensures', 6: '@later .ensures'}))},
-    'set/weight': {'use': [EQUATIONS, FIELDS + '{marked}'], 'unf': {'*': 'marked'}, 'returns': 'rw (@if1 .taken) (refl, search needs)', 'returns-2': 'rw (@if1 .left) (refl, search needs)'},
-    'set/marks_of': {'use': [EQUATIONS, OMEGA, FIELDS + '{marksOf}'], 'unf': {'*': 'marksOf'},
-        'returns': 'rw (%s) refl' % ', '.join('← @weight%s .ensures .0' % n for n in ('', '2', '3', '4'))},
+    'set/put': {'use': [EQUATIONS, 'lib.Seq.{set-out}'], 'returns': 'refl', 'returns-2': 'sym (set-out _ _ _ (@if1 .left))'},
+    'set/state': {'use': [EQUATIONS, FIELDS + '{withWord}'], 'unf': {'*': 'withWord'}, 'returns': 'rw (@unpack .ensures, @put .ensures, @pack .ensures) refl'},
     'text/case_line': line('caseLine', 'put-bytes', 'put-decimal', 'put-bytes2', 'put-decimal2', 'put'),
-    'text/time_line': line('timeLine', 'put-bytes', 'put-hex', 'put-bytes2', 'put-hex2', 'put-bytes3', 'put-hex3', 'put-bytes4', 'put-decimal', 'put', back='rw (← @marks-of .ensures) '),
+    'text/time_line': line('timeLine', 'put-bytes', 'put-hex', 'put-bytes2', 'put-hex2', 'put-bytes3', 'put-hex3', 'put-bytes4', 'put-decimal', 'put', back='rw (← @marks .ensures) '),
     'text/entry_line': line('entryLine', 'put', 'put2', 'put-hex', 'put3', 'put-hex2', 'put4'),
     'text/numbered_line': line('numberedLine', 'put-bytes', 'put-decimal', 'put'),
     'compare/least': {'use': [EQUATIONS, OMEGA]},

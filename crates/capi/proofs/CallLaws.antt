@@ -11,7 +11,7 @@ use Rattle.machine.specs.Machine.{Machine, Became}
 use Rattle.machine.proofs.RunLaws.{refused-left}
 use Rattle.isa.specs.Mil1750.{mil1750}
 use Rattle.image.specs.Image as image
-use Rattle.capi.specs.Packed.{packed}
+use Rattle.packed.specs.Packed.{packed}
 use Rattle.capi.specs.Calls.{Reply, Replied, reply, sized, given, loading, running}
 
 -- ---- the questions

@@ -1,3 +1,2 @@
--- The laws of the packed state and of the two calls.
-pub mod PackLaws
+-- The laws of the two calls.
 pub mod CallLaws

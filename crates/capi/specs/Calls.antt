@@ -9,7 +9,7 @@ use Rattle.machine.specs.Machine.{Machine, machine}
 use Rattle.machine.specs.Runs.{numberOf, answerOf, left}
 use Rattle.isa.specs.Mil1750.{mil1750}
 use Rattle.image.specs.Image as image
-use Rattle.capi.specs.Packed.{unpacked, packed}
+use Rattle.packed.specs.Packed.{unpacked, packed}
 
 -- the answer to a call, and what it leaves of the packed words, memory, page registers and ports
 pub record Reply : Type 0 where

@@ -1,3 +1,2 @@
--- The definitions of the packed state and of the two calls.
-pub mod Packed
+-- The definitions of the two calls.
 pub mod Calls

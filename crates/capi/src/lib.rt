@@ -2,5 +2,4 @@
 // A call answers 0 when it is done, else the number of a refusal, which changes nothing: 100 when there are not exactly 32 packed words,
 // asked first, or the Scope's number.
 pub mod load;
-mod pack;
 pub mod run;

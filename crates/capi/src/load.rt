@@ -1,7 +1,7 @@
 // The call that loads an image.
 ghost use Rattle.capi.specs.Calls.{Replied, loading};
-use crate::pack::pack;
-use crate::pack::unpack;
+use packed::pack;
+use packed::unpack;
 
 // Loading: what image::load does, on the packed state.
 #[no_mangle]

@@ -1,7 +1,7 @@
 // The call that runs.
 ghost use Rattle.capi.specs.Calls.{Replied, running};
-use crate::pack::pack;
-use crate::pack::unpack;
+use packed::pack;
+use packed::unpack;
 
 // A run: what cpu::run does, on the packed state.
 #[no_mangle]

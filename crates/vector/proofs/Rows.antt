@@ -1,12 +1,9 @@
--- Known lines and words of the state, computed (docs/VECTORS.md). Assumes nothing.
+-- Known lines, computed (docs/VECTORS.md). Assumes nothing.
 use Prim.Native.Nat.{ℕ}
-use mathlib.Core.Bool.{true, false}
 use mathlib.Core.List.{List, [], _∷_}
 use mathlib.Core.Path.{_≡_, refl}
-use Rattle.machine.specs.declared.State.{State}
 use Rattle.vector.specs.declared.Line.{Line}
 use Rattle.vector.specs.Lines.{digitOf, given, wordOf, sizeOf, limitOf, entryOf, lineOf}
-use Rattle.vector.specs.Fields.{marked, marksOf}
 
 -- "M 0100 82FA"
 memory-line : lineOf (77 ∷ 32 ∷ 48 ∷ 49 ∷ 48 ∷ 48 ∷ 32 ∷ 56 ∷ 50 ∷ 70 ∷ 65 ∷ 0 ∷ []) 11 ≡ Line.Entry 77 256 33530
@@ -32,11 +29,3 @@ too-many = refl
 remark : lineOf (35 ∷ 32 ∷ 97 ∷ 32 ∷ 114 ∷ 101 ∷ 109 ∷ 97 ∷ 114 ∷ 107 ∷ 0 ∷ 0 ∷ []) 10 ≡ Line.Remark
 unfolding lineOf
 remark = refl
-
--- interrupts enabled, no hold mark, both timers running
-abbrev running : State
-running = record { regs = []; ic = 0; sw = 0; mk = 0; pi = 0; ft = 0; enabled = true; hold = false; ta = 0; tb = 0; taon = true; tbon = true; count = 0 }
-
-marks-13 : marksOf running ≡ 13
-unfolding marked marksOf
-marks-13 = refl

@@ -4,8 +4,8 @@ ghost use Prim.Native.Nat.{_≤_};
 ghost use lib.ListN.{length};
 ghost use Rattle.report.specs.Report.{Text};
 ghost use Rattle.vector.specs.Texts.{caseLine, timeLine, entryLine, numberedLine};
-use crate::set::marks_of;
 use machine::State;
+use packed::marks;
 use report::text::put;
 use report::text::put_bytes;
 use report::text::put_decimal;
@@ -31,7 +31,7 @@ pub fn time_line(s: State, out: &mut [u8; 256]) -> usize
     let at = put_bytes(out, at, b" tb ");
     let at = put_hex(out, at, s.tb);
     let at = put_bytes(out, at, b" marks ");
-    let at = put_hex(out, at, marks_of(s));
+    let at = put_hex(out, at, marks(s));
     let at = put_bytes(out, at, b" count ");
     let at = put_decimal(out, at, s.count);
     put(out, at, b'\n')

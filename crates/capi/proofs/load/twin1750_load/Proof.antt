@@ -8,8 +8,8 @@ use Rattle.capi.proofs.load.twin1750_load.Statement.{statement}
 use Rattle.capi.proofs.load.twin1750_load.Tie as tie
 use Rattle.capi.proofs.load.twin1750_load.Reads as reads
 use Rattle.capi.proofs.load.twin1750_load.Lts as lts
-use Rattle.capi.proofs.pack.pack.Reads as pack-reads
-use Rattle.capi.proofs.pack.unpack.Reads as unpack-reads
+use Rattle.packed.proofs.pack.Reads as pack-reads
+use Rattle.packed.proofs.unpack.Reads as unpack-reads
 use Rattle.image.proofs.door.number.Reads as number-reads
 use Rattle.image.proofs.load.load.Reads as load-reads
 

@@ -8,8 +8,8 @@ use Rattle.capi.proofs.run.twin1750_run.Statement.{statement}
 use Rattle.capi.proofs.run.twin1750_run.Tie as tie
 use Rattle.capi.proofs.run.twin1750_run.Reads as reads
 use Rattle.capi.proofs.run.twin1750_run.Lts as lts
-use Rattle.capi.proofs.pack.pack.Reads as pack-reads
-use Rattle.capi.proofs.pack.unpack.Reads as unpack-reads
+use Rattle.packed.proofs.pack.Reads as pack-reads
+use Rattle.packed.proofs.unpack.Reads as unpack-reads
 use Rattle.cpu.proofs.run.number.Reads as number-reads
 use Rattle.cpu.proofs.run.run.Reads as run-reads
 

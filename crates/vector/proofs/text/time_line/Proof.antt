@@ -8,11 +8,11 @@ use Rattle.vector.proofs.text.time_line.Statement.{statement}
 use Rattle.vector.proofs.text.time_line.Tie as tie
 use Rattle.vector.proofs.text.time_line.Reads as reads
 use Rattle.vector.proofs.text.time_line.Lts as lts
+use Rattle.packed.proofs.marks.Reads as marks-reads
 use Rattle.report.proofs.text.put.Reads as put-reads
 use Rattle.report.proofs.text.put_bytes.Reads as put-bytes-reads
 use Rattle.report.proofs.text.put_decimal.Reads as put-decimal-reads
 use Rattle.report.proofs.text.put_hex.Reads as put-hex-reads
-use Rattle.vector.proofs.set.marks_of.Reads as marks-of-reads
 
 slice-aggregate-put-bytes : tie.Need-slice-aggregate-put-bytes
 slice-aggregate-put-bytes c = search needs
@@ -38,8 +38,8 @@ slice-aggregate-put-bytes-3 c = search needs
 put-bytes-requires-3 : tie.Need-put-bytes-requires-3
 put-bytes-requires-3 c κs = search needs
 
-marks-of-requires : tie.Need-marks-of-requires
-marks-of-requires c κs = search needs
+marks-requires : tie.Need-marks-requires
+marks-requires c κs = search needs
 
 put-hex-requires-3 : tie.Need-put-hex-requires-3
 put-hex-requires-3 c κs = search needs
@@ -58,7 +58,7 @@ put-requires c κs = search needs
 
 returns : tie.Need-returns
 unfolding timeLine
-returns c = rw (← c .before .before .before .before .before .before .before .before .marks-of .ensures) (whole (then (c .before .before .before .before .before .before .before .before .before .before .before .before .before .before .before .before .before .before .before .before .put-bytes .ensures .0) (then (c .before .before .before .before .before .before .before .before .before .before .before .before .before .before .before .before .before .before .put-hex .ensures .0) (then (c .before .before .before .before .before .before .before .before .before .before .before .before .before .before .before .put-bytes2 .ensures .0) (then (c .before .before .before .before .before .before .before .before .before .before .before .before .before .put-hex2 .ensures .0) (then (c .before .before .before .before .before .before .before .before .before .before .put-bytes3 .ensures .0) (then (c .before .before .before .before .before .before .before .put-hex3 .ensures .0) (then (c .before .before .before .before .put-bytes4 .ensures .0) (then (c .before .before .put-decimal .ensures .0) (c .put .ensures .0))))))))))
+returns c = rw (← c .before .before .before .before .before .before .before .before .marks .ensures) (whole (then (c .before .before .before .before .before .before .before .before .before .before .before .before .before .before .before .before .before .before .before .before .put-bytes .ensures .0) (then (c .before .before .before .before .before .before .before .before .before .before .before .before .before .before .before .before .before .before .put-hex .ensures .0) (then (c .before .before .before .before .before .before .before .before .before .before .before .before .before .before .before .put-bytes2 .ensures .0) (then (c .before .before .before .before .before .before .before .before .before .before .before .before .before .put-hex2 .ensures .0) (then (c .before .before .before .before .before .before .before .before .before .before .put-bytes3 .ensures .0) (then (c .before .before .before .before .before .before .before .put-hex3 .ensures .0) (then (c .before .before .before .before .put-bytes4 .ensures .0) (then (c .before .before .put-decimal .ensures .0) (c .put .ensures .0))))))))))
 
 pub time-line-spec : {M : Type 1} → statement M
 time-line-spec =
@@ -72,7 +72,7 @@ time-line-spec =
     put-hex-requires-2
     slice-aggregate-put-bytes-3
     put-bytes-requires-3
-    marks-of-requires
+    marks-requires
     put-hex-requires-3
     slice-aggregate-put-bytes-4
     put-bytes-requires-4

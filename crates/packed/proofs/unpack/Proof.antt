@@ -1,15 +1,15 @@
--- `capi::pack::unpack` meets its contract. Assumes nothing.
-use mathlib.Core.Path.{_≡_, refl}
-use Rattle.capi.specs.Packed.{marked, unpacked}
-use Rattle.capi.proofs.PackLaws.{first-half}
+-- `packed::unpack` meets its contract. Assumes nothing.
+use mathlib.Core.Path.{_≡_, refl, _∙_}
+use Rattle.packed.specs.Packed.{marked}
+use Rattle.packed.proofs.PackLaws.{first-half, from-parts}
 use borrow.Author.Needs.{needs}
-use Rattle.capi.proofs.pack.unpack.Statement.{statement}
-use Rattle.capi.proofs.pack.unpack.Tie as tie
-use Rattle.capi.proofs.pack.unpack.Reads as reads
-use Rattle.capi.proofs.pack.unpack.Lts as lts
-use Rattle.capi.proofs.pack.copy.Reads as copy-reads
-use Rattle.capi.proofs.pack.marked.Reads as marked-reads
-use Rattle.capi.proofs.pack.wide.Reads as wide-reads
+use Rattle.packed.proofs.unpack.Statement.{statement}
+use Rattle.packed.proofs.unpack.Tie as tie
+use Rattle.packed.proofs.unpack.Reads as reads
+use Rattle.packed.proofs.unpack.Lts as lts
+use Rattle.packed.proofs.copy.Reads as copy-reads
+use Rattle.packed.proofs.marked.Reads as marked-reads
+use Rattle.packed.proofs.wide.Reads as wide-reads
 
 slice-aggregate-copy : tie.Need-slice-aggregate-copy
 slice-aggregate-copy c = search needs
@@ -72,8 +72,8 @@ add-t34 : tie.Need-add-t34
 add-t34 c = search needs
 
 returns : tie.Need-returns
-unfolding unpacked marked
-returns c = rw (c .before .before .before .before .before .before .before .before .before .before .before .before .before .before .before .before .before .copy .ensures, first-half, c .before .before .before .before .before .before .before .before .before .marked .ensures, c .before .before .before .before .before .before .before .before .marked2 .ensures, c .before .before .before .before .before .marked3 .ensures, c .before .before .before .before .marked4 .ensures, c .before .before .wide .ensures .0, c .wide2 .ensures .0) refl
+unfolding marked
+returns c = from-parts _ _ (record { regs-is = c .before .before .before .before .before .before .before .before .before .before .before .before .before .before .before .before .before .copy .ensures ∙ first-half _; ic-is = refl; sw-is = refl; mk-is = refl; pi-is = refl; ft-is = refl; enabled-is = c .before .before .before .before .before .before .before .before .before .marked .ensures; hold-is = c .before .before .before .before .before .before .before .before .marked2 .ensures; taon-is = c .before .before .before .before .before .marked3 .ensures; tbon-is = c .before .before .before .before .marked4 .ensures; ta-is = refl; tb-is = refl; count-is = rw (c .before .before .wide .ensures .0, c .wide2 .ensures .0) refl })
 
 pub unpack-spec : {M : Type 1} → statement M
 unpack-spec =

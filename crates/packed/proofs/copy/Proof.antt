@@ -1,12 +1,12 @@
--- `capi::pack::copy` meets its contract. Assumes nothing.
+-- `packed::copy` meets its contract. Assumes nothing.
 use Prim.Native.Nat.{_-_}
 use native.Mathlib.Omega.{arith}
-use Rattle.capi.proofs.PackLaws.{Copied, copied-none, copied-more, copied-all}
+use Rattle.packed.proofs.PackLaws.{Copied, copied-none, copied-more, copied-all}
 use borrow.Author.Needs.{needs}
-use Rattle.capi.proofs.pack.copy.Statement.{statement}
-use Rattle.capi.proofs.pack.copy.Tie as tie
-use Rattle.capi.proofs.pack.copy.Reads as reads
-use Rattle.capi.proofs.pack.copy.Lts as lts
+use Rattle.packed.proofs.copy.Statement.{statement}
+use Rattle.packed.proofs.copy.Tie as tie
+use Rattle.packed.proofs.copy.Reads as reads
+use Rattle.packed.proofs.copy.Lts as lts
 
 abbrev Inv-loop : tie.InvT-loop
 Inv-loop to₀ at from i₀ to i = Copied to₀ at from to i

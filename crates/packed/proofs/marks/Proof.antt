@@ -1,12 +1,12 @@
--- `capi::pack::marks` meets its contract. Assumes nothing.
+-- `packed::marks` meets its contract. Assumes nothing.
 use mathlib.Core.Path.{_≡_, refl}
-use Rattle.capi.specs.Packed.{markAt, marksOf}
+use Rattle.packed.specs.Packed.{markAt, marksOf}
 use borrow.Author.Needs.{needs}
-use Rattle.capi.proofs.pack.marks.Statement.{statement}
-use Rattle.capi.proofs.pack.marks.Tie as tie
-use Rattle.capi.proofs.pack.marks.Reads as reads
-use Rattle.capi.proofs.pack.marks.Lts as lts
-use Rattle.capi.proofs.pack.mark.Reads as mark-reads
+use Rattle.packed.proofs.marks.Statement.{statement}
+use Rattle.packed.proofs.marks.Tie as tie
+use Rattle.packed.proofs.marks.Reads as reads
+use Rattle.packed.proofs.marks.Lts as lts
+use Rattle.packed.proofs.mark.Reads as mark-reads
 
 mark-requires : tie.Need-mark-requires
 mark-requires c κs = search needs

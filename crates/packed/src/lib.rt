@@ -1,10 +1,11 @@
 // The packed state: a state as 32 words.
+// 0 to 15 are R0 to R15, 16 IC, 17 SW, 18 MK, 19 PI, 20 FT, 21 the marks, 22 and 23 timers A and B, 24 and 25 the counter, high word first; 26 to 31 are 0.
 ghost use mathlib.Core.Path.{_≡_};
 ghost use Prim.Native.Nat.{_+_, _/_, _%_, _<_, _≤_};
 ghost use mathlib.Core.Bool.{cond};
 ghost use lib.Dec.{eqb};
 ghost use lib.ListN.{length};
-ghost use Rattle.capi.specs.Packed.{withSixteen, marksOf, unpacked, packed};
+ghost use Rattle.packed.specs.Packed.{withSixteen, marksOf, unpacked, packed};
 use machine::State;
 
 // The first sixteen words of a list written into another from word `at` on. Callers have as many on both sides.
@@ -42,13 +43,13 @@ fn mark(on: bool, weight: u16) -> u16
 }
 
 // The word of the four marks.
-fn marks(s: State) -> u16
+pub fn marks(s: State) -> u16
     ensures { λ r. ⌜ r ≡ marksOf s ⌝ }
 {
     mark(s.enabled, 1) + mark(s.hold, 2) + mark(s.taon, 4) + mark(s.tbon, 8)
 }
 
-// The state that 32 words stand for: callers have asked for their number, here and below.
+// The state that 32 words stand for. Callers have exactly so many, here and below.
 pub fn unpack(words: &[u16]) -> State
     requires { ⌜ length (now words) ≡ 32 ⌝ }
     ensures { λ r. ⌜ r ≡ unpacked (now (words .entry)) ⌝ }

@@ -1,4 +1,4 @@
--- The packed state: the copy of sixteen words, both halves of the packed words, and packing there and back. Assumes nothing.
+-- The packed state: the copy of sixteen words, both halves of the packed words, the unpacked state part by part, and packing there and back. Assumes nothing.
 use Prim.Native.Nat.{ℕ, zero, suc, _+_, _*_, _/_, _%_, _<_, _≤_}
 use mathlib.Core.Bool.{Bool, true, false, cond}
 use mathlib.Core.Path.{_≡_, refl, sym, ap, _∙_}
@@ -10,7 +10,7 @@ use lib.Arith.{mod-mul}
 use lib.Dec.{eqb}
 use lib.ListN.{length, getD, set, take, drop, replicate, length-set, drop-of-length-le}
 use lib.Seq.{paste, paste-zero, paste-suc, length-paste, take-paste, take-all, take-at, getD-append-add}
-use Rattle.capi.specs.Packed.{withSixteen, marked, markAt, marksOf, unpacked, others, packed}
+use Rattle.packed.specs.Packed.{withSixteen, marked, markAt, marksOf, unpacked, others, packed}
 use Rattle.machine.specs.declared.State.{State}
 use Rattle.machine.specs.State.{bit}
 
@@ -52,6 +52,41 @@ module _ (w a b : List ℕ) (whole : length w ≡ 32) (first : length a ≡ 16) 
       let l : length p ≡ 32 = length-paste w 0 a 16 (omega arith) (omega arith) ∙ whole in
       let past : drop 32 p ≡ [] = drop-of-length-le p {i = 32} (omega arith) in
       rw (past, take-paste w 0 a 16 (omega arith) (omega arith), take-all 16 a (omega arith), take-all 16 b (omega arith)) (append-nil (a ++ b))
+
+-- ---- the state of 32 words w, part by part
+
+pub record Parts (w : List ℕ) (s : State) : Type 0 where
+  pub regs-is : s .regs ≡ take 16 w
+  pub ic-is : s .ic ≡ getD w 16 0
+  pub sw-is : s .sw ≡ getD w 17 0
+  pub mk-is : s .mk ≡ getD w 18 0
+  pub pi-is : s .pi ≡ getD w 19 0
+  pub ft-is : s .ft ≡ getD w 20 0
+  pub enabled-is : s .enabled ≡ marked (getD w 21 0) 15
+  pub hold-is : s .hold ≡ marked (getD w 21 0) 14
+  pub taon-is : s .taon ≡ marked (getD w 21 0) 13
+  pub tbon-is : s .tbon ≡ marked (getD w 21 0) 12
+  pub ta-is : s .ta ≡ getD w 22 0
+  pub tb-is : s .tb ≡ getD w 23 0
+  pub count-is : s .count ≡ 65536 * getD w 24 0 + getD w 25 0
+
+pub from-parts : (w : List ℕ) (s : State) → Parts w s → s ≡ unpacked w
+unfolding unpacked
+from-parts w s h = λ i. record {
+  regs = h .regs-is i;
+  ic = h .ic-is i;
+  sw = h .sw-is i;
+  mk = h .mk-is i;
+  pi = h .pi-is i;
+  ft = h .ft-is i;
+  enabled = h .enabled-is i;
+  hold = h .hold-is i;
+  taon = h .taon-is i;
+  tbon = h .tbon-is i;
+  ta = h .ta-is i;
+  tb = h .tb-is i;
+  count = h .count-is i;
+}
 
 -- ---- the marks
 

@@ -1,16 +1,16 @@
--- `capi::pack::pack` meets its contract. Assumes nothing.
+-- `packed::pack` meets its contract. Assumes nothing.
 use mathlib.Core.Path.{_≡_, refl}
 use native.Mathlib.Omega.{arith}
 use lib.ListN.{length}
-use Rattle.capi.specs.Packed.{others, packed}
-use Rattle.capi.proofs.PackLaws.{both-halves}
+use Rattle.packed.specs.Packed.{others, packed}
+use Rattle.packed.proofs.PackLaws.{both-halves}
 use borrow.Author.Needs.{needs}
-use Rattle.capi.proofs.pack.pack.Statement.{statement}
-use Rattle.capi.proofs.pack.pack.Tie as tie
-use Rattle.capi.proofs.pack.pack.Reads as reads
-use Rattle.capi.proofs.pack.pack.Lts as lts
-use Rattle.capi.proofs.pack.copy.Reads as copy-reads
-use Rattle.capi.proofs.pack.marks.Reads as marks-reads
+use Rattle.packed.proofs.pack.Statement.{statement}
+use Rattle.packed.proofs.pack.Tie as tie
+use Rattle.packed.proofs.pack.Reads as reads
+use Rattle.packed.proofs.pack.Lts as lts
+use Rattle.packed.proofs.copy.Reads as copy-reads
+use Rattle.packed.proofs.marks.Reads as marks-reads
 
 cast-high : tie.Need-cast-high
 cast-high c = search needs

@@ -1,0 +1,2 @@
+-- The definitions of the packed state.
+pub mod Packed
