@@ -7,6 +7,8 @@ TESTS = 'borrow.Author.Tests.{eq-eqb, ne-eqb, lt-ltb, le-ltb, le-leb, lt-leb}'
 OTHERWISE = 'Rattle.choice.proofs.SelectLaws.{otherwise}'
 LINES = 'Rattle.vector.specs.Lines.'
 FIELDS = 'Rattle.vector.specs.Fields.'
+CHANGES = 'Rattle.vector.specs.Changes.'
+CHANGE_LAWS = 'Rattle.vector.proofs.ChangeLaws.'
 TEXTS = 'Rattle.vector.specs.Texts.'
 LAWS = 'Rattle.report.proofs.WroteLaws.'
 
@@ -76,10 +78,10 @@ A = {
     'text/entry_line': line('entryLine', 'put', 'put2', 'put-hex', 'put3', 'put-hex2', 'put4'),
     'text/numbered_line': line('numberedLine', 'put-bytes', 'put-decimal', 'put'),
     'compare/least': {'use': [EQUATIONS, OMEGA]},
-    'compare/next': {'use': [EQUATIONS, NAT, OMEGA, 'lib.ListN.{length, getD}', 'borrow.Author.Count.{below-more}'], 'default': 'omega arith',
-        'Inv-loop': '(from ≤ i) × ((k : ℕ) → k < i → from ≤ k → getD before k 0 ≡ getD after k 0)', 'μ-loop': 'length after - i',
-        'loop-holds': '(omega arith, λ k below above. absurd (omega arith))',
-        'loop-again': '(omega arith, below-more _ _ (@loop .inv .1) (λ above. @if1 .left))',
-        'returns': 'record { start = @loop .inv .0; same = @loop .inv .1; changed = λ inside. @if1 .taken }',
-        'returns-2': 'record { start = @loop .inv .0; same = @loop .inv .1; changed = λ inside. absurd (omega arith) }'},
+    'compare/next': {'use': [EQUATIONS, NAT, OMEGA, 'lib.ListN.{length}', CHANGES + '{nextChanged}', CHANGE_LAWS + '{past, same, changed}'], 'default': 'omega arith',
+        'Inv-loop': '(from ≤ i) × (nextChanged before after i ≡ nextChanged before after from)', 'μ-loop': 'length after - i',
+        'loop-holds': '(omega arith, refl)',
+        'loop-again': '(omega arith, sym (same _ _ _ (@loop-test .taken) (@if1 .left)) ∙ @loop .inv .1)',
+        'returns': '(sym (changed _ _ _ (@loop-test .taken) (@if1 .taken)) ∙ @loop .inv .1, @loop .inv .0)',
+        'returns-2': '(sym (past _ _ _ (@loop-test .left)) ∙ @loop .inv .1, @loop .inv .0)'},
 }

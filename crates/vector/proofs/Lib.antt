@@ -1,2 +1,3 @@
--- Known lines, computed.
+-- The laws of changed words; known lines and changes, computed.
+pub mod ChangeLaws
 pub mod Rows

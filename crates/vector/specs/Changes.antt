@@ -1,11 +1,16 @@
 -- What a run has changed in a list of words. Assumes nothing.
-use Prim.Native.Nat.{ℕ, _<_, _≤_}
+use Prim.Native.Nat.{ℕ, zero, suc, _+_, _-_}
+use mathlib.Core.Bool.{cond}
 use mathlib.Core.List.{List}
-use mathlib.Core.Path.{_≡_}
+use lib.Dec.{eqb}
 use lib.ListN.{length, getD}
 
--- the first word from `from` on that has changed; past the last word where there is none
-pub record Next (before after : List ℕ) (from r : ℕ) : Type 0 where
-  pub start : from ≤ r
-  pub same : (k : ℕ) → k < r → from ≤ k → getD before k 0 ≡ getD after k 0
-  pub changed : r < length after → getD before r 0 ≡ getD after r 0 → ⊥
+module _ (before after : List ℕ) where
+  -- the first of n words from word i on that has changed; i + n where there is none
+  unfoldable pub firstChanged : ℕ → ℕ → ℕ
+  firstChanged zero i = i
+  firstChanged (suc n) i = cond (eqb (getD before i 0) (getD after i 0)) (firstChanged n (i + 1)) i
+
+  -- the first word from word i on that has changed; where there is none, i or the number of words, whichever is larger
+  unfoldable pub nextChanged : ℕ → ℕ
+  nextChanged i = firstChanged (length after - i) i

@@ -2,12 +2,12 @@
 ghost use mathlib.Core.Path.{_≡_};
 ghost use Prim.Native.Nat.{_≤_, min};
 ghost use lib.ListN.{length};
-ghost use Rattle.vector.specs.Changes.{Next};
+ghost use Rattle.vector.specs.Changes.{nextChanged};
 
 // The number of the first word from `from` on that has changed; where there is none, `from` or the number of words, whichever is larger.
 pub fn next(before: &[u16], after: &[u16], from: usize) -> usize
     requires { ⌜ length (now before) ≡ length (now after) ⌝ }
-    ensures { λ r. ⌜ Next (now (before .entry)) (now (after .entry)) from r ⌝ }
+    ensures { λ r. ⌜ (r ≡ nextChanged (now (before .entry)) (now (after .entry)) from) × (from ≤ r) ⌝ }
 {
     let mut i = from;
     while i < after.len() {

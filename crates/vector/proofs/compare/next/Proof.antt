@@ -2,8 +2,9 @@
 use mathlib.Core.Path.{_≡_, refl, sym, ap, _∙_}
 use Prim.Native.Nat.{ℕ, _+_, _*_, _-_, _≤_, _<_}
 use native.Mathlib.Omega.{arith}
-use lib.ListN.{length, getD}
-use borrow.Author.Count.{below-more}
+use lib.ListN.{length}
+use Rattle.vector.specs.Changes.{nextChanged}
+use Rattle.vector.proofs.ChangeLaws.{past, same, changed}
 use borrow.Author.Needs.{needs}
 use Rattle.vector.proofs.compare.next.Statement.{statement}
 use Rattle.vector.proofs.compare.next.Tie as tie
@@ -11,13 +12,13 @@ use Rattle.vector.proofs.compare.next.Reads as reads
 use Rattle.vector.proofs.compare.next.Lts as lts
 
 abbrev Inv-loop : tie.InvT-loop
-Inv-loop before after from i₀ i = (from ≤ i) × ((k : ℕ) → k < i → from ≤ k → getD before k 0 ≡ getD after k 0)
+Inv-loop before after from i₀ i = (from ≤ i) × (nextChanged before after i ≡ nextChanged before after from)
 
 abbrev μ-loop : tie.MeasureT-loop
 μ-loop before after from i₀ i = length after - i
 
 loop-holds : tie.Need-loop-holds Inv-loop μ-loop
-loop-holds c = (omega arith, λ k below above. absurd (omega arith))
+loop-holds c = (omega arith, refl)
 
 mul-if1 : tie.Need-mul-if1 Inv-loop μ-loop
 mul-if1 c = omega arith
@@ -32,7 +33,7 @@ shared-slice-read-if1-2 : tie.Need-shared-slice-read-if1-2 Inv-loop μ-loop
 shared-slice-read-if1-2 c = omega arith
 
 returns : tie.Need-returns Inv-loop μ-loop
-returns c = record { start = c .before .before .before .before .loop .inv .0; same = c .before .before .before .before .loop .inv .1; changed = λ inside. c .if1 .taken }
+returns c = (sym (changed _ _ _ (c .before .before .before .loop-test .taken) (c .if1 .taken)) ∙ c .before .before .before .before .loop .inv .1, c .before .before .before .before .loop .inv .0)
 
 add-i : tie.Need-add-i Inv-loop μ-loop
 add-i c = omega arith
@@ -41,10 +42,10 @@ loop-less : tie.Need-loop-less Inv-loop μ-loop
 loop-less c = omega arith
 
 loop-again : tie.Need-loop-again Inv-loop μ-loop
-loop-again c = (omega arith, below-more _ _ (c .before .before .before .before .loop .inv .1) (λ above. c .if1 .left))
+loop-again c = (omega arith, sym (same _ _ _ (c .before .before .before .loop-test .taken) (c .if1 .left)) ∙ c .before .before .before .before .loop .inv .1)
 
 returns-2 : tie.Need-returns-2 Inv-loop μ-loop
-returns-2 c = record { start = c .before .loop .inv .0; same = c .before .loop .inv .1; changed = λ inside. absurd (omega arith) }
+returns-2 c = (sym (past _ _ _ (c .loop-test .left)) ∙ c .before .loop .inv .1, c .before .loop .inv .0)
 
 pub next-spec : {M : Type 1} → statement M
 next-spec =
