@@ -102,7 +102,7 @@ A = {
     'run/interrupted': by(STEP + ' perform', use=[LAWS + '{entry-step}', STATE + '{joined}', MACHINE + '{machine}', ISA + '{mil1750}'],
         returns='λ regs ports e. entry-step mil1750 (machine (joined (@args .core) regs) (@args .memory .now) (@args .pages .now) ports) _ e _ _ regs _ _ ports (@tick .ensures) (@Start .pre .1) '
             '(rw (← @release .ensures regs, ← @vector .ensures) (@enter .ensures regs ports))'),
-    'run/stays': by(use=[NEVER, 'borrow.Author.Tests.{eqb-true}'], returns='λ h. absurd (false≢true h)', returns_2='λ h. (@if1 .left, @if2 .taken, eqb-true (@args .after) (@args .before) h)', returns_3='λ h. absurd (false≢true h)'),
+    'run/stays': by(returns='rw (@if1 .taken) refl', returns_2='rw (@if1 .left, @if2 .taken) refl', returns_3='rw (@if1 .left, @if2 .left) refl'),
     'run/go_on': {},
     'run/whole': by(RUNS + ' wholePages', use=[TESTS],
         returns='rw (eq-eqb _ _ (@if1 .taken), le-leb _ _ (@if2 .taken)) refl', returns_2='rw (eq-eqb _ _ (@if1 .taken), lt-leb _ _ (@if2 .left)) refl',
@@ -128,20 +128,21 @@ def lengths(call, place):
 
 TURN = 'rw (l .inv .%%d, steps-step mil1750 (l .left) %s (@loop-test .taken), ← became-machine (%%s)) refl' % HERE
 STEPPED = ('instruction-step mil1750 %s _ refl _ _ _ _ _ _ (@tick .ensures) _ (@release .ensures (l .regs)) (l .inv .6) (@instruct .ensures .0)' % HERE)
-STAYED = '(@stays .ensures (not-false (@stays .result) (@if1 .left)))'
-KEPT = '_ _ _ _ (@release .ensures) (@instruct .ensures .1 (%s .1)) (@tick .ensures) (%s .0) (%s .2)' % (STAYED, STAYED, STAYED)
+STAYED = 'stayed _ _ _ _ _ (@stays .ensures) (not-false (@stays .result) (@if1 .left))'
+SETTLED = '(@instruct .ensures .1 (y .1))'
+KEPT = '_ _ _ _ (@release .ensures) %s (@tick .ensures) (y .0) (y .2)' % SETTLED
 A['run/go_on'] = {
     'use': [EQUATIONS, OMEGA, TESTS, LENGTH, 'Prim.Native.Nat.{_≤_}', STATE + '{keyOf, groupOf, joined}', MACHINE + '{machine}', RUNS + '{steps}', ISA + '{mil1750}',
             'Rattle.machine.specs.Entries.{chosen}', STEP + '{perform, released}',
-            LAWS + '{steps-step, instruction-step, key-released, group-released, chosen-kept, key-kept, group-kept}', 'Rattle.machine.proofs.MachineLaws.{became-machine}'],
+            LAWS + '{steps-step, instruction-step, sw-released, stayed, chosen-kept, part-kept}', 'Rattle.machine.proofs.MachineLaws.{became-machine}'],
     'Inv-loop': '(length memory ≡ length memory₀) × (length pages ≡ length pages₀) × (length ports ≡ length ports₀) × (left ≤ left₀) × '
         '(key ≡ keyOf (t .sw)) × (group ≡ groupOf (t .sw)) × (16 ≤ chosen (joined t regs)) × '
         '(steps mil1750 left₀ (machine (joined t₀ regs₀) memory₀ pages₀ ports₀) ≡ steps mil1750 left (machine (joined t regs) memory pages ports))',
     'μ-loop': 'left', 'loop-holds': '(refl, refl, refl, omega arith, @Start .pre .3, @Start .pre .4, @Start .pre .7, refl)', 'default': 'omega arith',
-    'instruct-requires': '(omega arith, omega arith, @Start .pre .2, @loop .inv .4 ∙ key-released _ _ (@release .ensures), @loop .inv .5 ∙ group-released _ _ (@release .ensures), @Start .pre .5)',
+    'instruct-requires': '(omega arith, omega arith, @Start .pre .2, @loop .inv .4 ∙ ap keyOf (sw-released _ _ (@release .ensures)), @loop .inv .5 ∙ ap groupOf (sw-released _ _ (@release .ensures)), @Start .pre .5)',
     'same-length-4': '@loop .inv .0', 'same-length-5': '@loop .inv .1', 'same-length-6': '@loop .inv .2',
-    'loop-again': 'let l = @loop in (%s, omega arith, l .inv .4 ∙ sym (key-kept %s), l .inv .5 ∙ sym (group-kept %s), rw (chosen-kept %s (l .regs) _) (l .inv .6), %s)'
-        % (lengths('instruct', 4), KEPT, KEPT, KEPT, TURN % (7, STEPPED)),
+    'loop-again': 'let l = @loop in let y = %s in (%s, omega arith, l .inv .4 ∙ sym (part-kept %s keyOf (%s .key-kept)), l .inv .5 ∙ sym (part-kept %s groupOf (%s .group-kept)), rw (chosen-kept %s (l .regs) _) (l .inv .6), %s)'
+        % (STAYED, lengths('instruct', 4), KEPT, SETTLED, KEPT, SETTLED, KEPT, TURN % (7, STEPPED)),
     'returns': 'let l = @loop in (omega arith, %s)' % (TURN % (7, STEPPED)),
     'returns-2': '(omega arith, @loop .inv .7)'}
 CHOSEN = '(@choose .ensures (joined (@loop .t) (@loop .regs)) refl refl refl refl)'

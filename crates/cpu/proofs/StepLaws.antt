@@ -1,17 +1,17 @@
 -- What a step does, its end, what stays over it, a run's steps by a turn, and what the questions before a run let through. Assumes nothing.
 use Prim.Native.Nat.{ℕ, zero, suc, _-_, _≤_, _<_}
 use mathlib.Core.Path.{_≡_, refl, sym, ap, subst, _∙_}
-use mathlib.Core.Bool.{Bool, true, false}
+use mathlib.Core.Bool.{Bool, true, false, not, _&&_, false≢true}
 use mathlib.Core.List.{List, []}
 use native.Mathlib.Omega.{arith}
 use native.Mathlib.Numerals.{sub-one}
 use lib.Dec.{T, eqb, eqb→eq}
-use borrow.Author.Tests.{lt-ltb, le-ltb}
+use borrow.Author.Tests.{eqb-true, lt-ltb, le-ltb}
 use Rattle.machine.specs.declared.State.{State}
 use Rattle.machine.specs.declared.Core.{Core}
 use Rattle.machine.specs.declared.Answer.{Answer}
 use Rattle.machine.specs.declared.Answer.the-variants.{Spent, BadMemory, BadPages, BadPorts, BadBudget, BadCounter}
-use Rattle.machine.specs.State.{keyOf, groupOf, withPi, withHold, withTa, withTb, withCount, joined}
+use Rattle.machine.specs.State.{withPi, withHold, withTa, withTb, withCount, joined}
 use Rattle.machine.specs.Machine.{Machine, Became, Isa}
 use Rattle.machine.specs.Instructions.{enter, view, instructed}
 use Rattle.machine.specs.Entries.{takeable, chosen}
@@ -54,15 +54,17 @@ module _ (isa : Isa) (x : Machine) (n : ℕ) (e : n ≡ chosen (x .state)) (c r 
       let done = subst (λ w. Became (perform w (x .memory) (x .pages) (x .ports) (instructed isa w (x .pages) (x .ports) (view w (x .memory) (x .pages)))) (joined c regs) m g o) k b in
       became-ticked _ c r regs m g o (rw (← instructs isa x n e h) done) f
 
--- the key and the address state stay where the hold mark is cleared
-module _ (t f : Core) (a : (v : List ℕ) → joined f v ≡ released (joined t v)) where
-  pub key-released : keyOf (t .sw) ≡ keyOf (f .sw)
-  unfolding released withHold
-  key-released = sym (ap (λ (u : State). keyOf (u .sw)) (a []))
+-- SW stays where the hold mark is cleared
+pub sw-released : (t f : Core) → ((v : List ℕ) → joined f v ≡ released (joined t v)) → t .sw ≡ f .sw
+unfolding released withHold
+sw-released t f a = sym (ap (λ (u : State). u .sw) (a []))
 
-  pub group-released : groupOf (t .sw) ≡ groupOf (f .sw)
-  unfolding released withHold
-  group-released = sym (ap (λ (u : State). groupOf (u .sw)) (a []))
+-- the test that lets steps go on
+pub stayed : (held settled : Bool) (before after : ℕ) (r : Bool) → r ≡ (not held && (settled && eqb after before)) → r ≡ true
+    → (held ≡ false) × (settled ≡ true) × (after ≡ before)
+stayed true settled before after r e h = absurd (false≢true (sym e ∙ h))
+stayed false false before after r e h = absurd (false≢true (sym e ∙ h))
+stayed false true before after r e h = (refl, refl, eqb-true after before (sym e ∙ h))
 
 -- the choice of an interrupt, the key and the address state stay over a step from t to d, by the cores f before and m after its instruction
 module _ (t f m d : Core) (a : (v : List ℕ) → joined f v ≡ released (joined t v)) (s : Settled f m) (b : (v : List ℕ) → joined d v ≡ ticked (joined m v))
@@ -78,13 +80,10 @@ module _ (t f m d : Core) (a : (v : List ℕ) → joined f v ≡ released (joine
         h,
       ) refl
 
-  pub key-kept : keyOf (d .sw) ≡ keyOf (t .sw)
+  -- a part of SW, as the key or the address state, that the instruction leaves
+  pub part-kept : (part : ℕ → ℕ) → part (m .sw) ≡ part (f .sw) → part (d .sw) ≡ part (t .sw)
   unfolding released ticked withHold withPi withTb withTa withCount
-  key-kept = ap (λ (u : State). keyOf (u .sw)) (b []) ∙ s .key-kept ∙ ap (λ (u : State). keyOf (u .sw)) (a [])
-
-  pub group-kept : groupOf (d .sw) ≡ groupOf (t .sw)
-  unfolding released ticked withHold withPi withTb withTa withCount
-  group-kept = ap (λ (u : State). groupOf (u .sw)) (b []) ∙ s .group-kept ∙ ap (λ (u : State). groupOf (u .sw)) (a [])
+  part-kept part k = ap (λ (u : State). part (u .sw)) (b []) ∙ k ∙ ap (λ (u : State). part (u .sw)) (a [])
 
 -- ---- n steps
 

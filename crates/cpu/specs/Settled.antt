@@ -1,4 +1,4 @@
--- Cores before and after which the choice of an interrupt, the key and the address state are the same. Assumes nothing.
+-- Two cores with which the choice of an interrupt, the key and the address state are the same. Assumes nothing.
 use mathlib.Core.Path.{_≡_}
 use Rattle.machine.specs.declared.Core.{Core}
 use Rattle.machine.specs.State.{keyOf, groupOf}

@@ -1,8 +1,9 @@
 // Steps and runs (Scope, "One step", "Questions at the door").
 ghost use mathlib.Core.Path.{_≡_};
-ghost use mathlib.Core.Bool.{true, false};
+ghost use mathlib.Core.Bool.{not, _&&_};
 ghost use mathlib.Core.List.{List};
 ghost use Prim.Native.Nat.{ℕ, _<_, _≤_};
+ghost use lib.Dec.{eqb};
 ghost use lib.ListN.{length};
 ghost use Rattle.decode.specs.Decode.{forms};
 ghost use Rattle.machine.specs.State.{keyOf, groupOf, joined};
@@ -36,7 +37,7 @@ fn interrupted(core: Core, memory: &mut [u16], pages: &[u16], n: u16) -> Core
 
 // Whether the choice of an interrupt is as before a step: the hold mark was not set, the instruction left it, and no timer changed PI.
 fn stays(held: bool, settled: bool, before: u16, after: u16) -> bool
-    ensures { λ r. ⌜ (r ≡ true → (held ≡ false) × (settled ≡ true) × (after ≡ before)) ⌝ }
+    ensures { λ r. ⌜ r ≡ (not held && (settled && eqb after before)) ⌝ }
 {
     if held {
         return false;

@@ -10,7 +10,7 @@ use Rattle.machine.specs.Runs.{steps}
 use Rattle.isa.specs.Mil1750.{mil1750}
 use Rattle.machine.specs.Entries.{chosen}
 use Rattle.machine.specs.Step.{perform, released}
-use Rattle.cpu.proofs.StepLaws.{steps-step, instruction-step, key-released, group-released, chosen-kept, key-kept, group-kept}
+use Rattle.cpu.proofs.StepLaws.{steps-step, instruction-step, sw-released, stayed, chosen-kept, part-kept}
 use Rattle.machine.proofs.MachineLaws.{became-machine}
 use borrow.Author.Needs.{needs}
 use Rattle.cpu.proofs.run.go_on.Statement.{statement}
@@ -35,7 +35,7 @@ release-requires : tie.Need-release-requires Inv-loop μ-loop
 release-requires c κs = omega arith
 
 instruct-requires : tie.Need-instruct-requires Inv-loop μ-loop
-instruct-requires c κs = (omega arith, omega arith, c .before .before .before .before .before .before .before .before .before .before .pre .2, c .before .before .before .before .before .before .loop .inv .4 ∙ key-released _ _ (c .before .before .before .before .release .ensures), c .before .before .before .before .before .before .loop .inv .5 ∙ group-released _ _ (c .before .before .before .before .release .ensures), c .before .before .before .before .before .before .before .before .before .before .pre .5)
+instruct-requires c κs = (omega arith, omega arith, c .before .before .before .before .before .before .before .before .before .before .pre .2, c .before .before .before .before .before .before .loop .inv .4 ∙ ap keyOf (sw-released _ _ (c .before .before .before .before .release .ensures)), c .before .before .before .before .before .before .loop .inv .5 ∙ ap groupOf (sw-released _ _ (c .before .before .before .before .release .ensures)), c .before .before .before .before .before .before .before .before .before .before .pre .5)
 
 tick-requires : tie.Need-tick-requires Inv-loop μ-loop
 tick-requires c κs = omega arith
@@ -62,7 +62,7 @@ loop-less : tie.Need-loop-less Inv-loop μ-loop
 loop-less c = omega arith
 
 loop-again : tie.Need-loop-again Inv-loop μ-loop
-loop-again c = let l = c .before .before .before .before .before .before .before .before .before .before .before .before .before .before .before .before .loop in (c .before .before .before .before .before .before .before .before .before .instruct .kept .1 .1 .1 .1 .0 ∙ l .inv .0, c .before .before .before .before .before .before .before .before .before .instruct .kept .1 .1 .1 .1 .1 .0 ∙ l .inv .1, c .before .before .before .before .before .before .before .before .before .instruct .kept .1 .1 .1 .1 .1 .1 .0 ∙ l .inv .2, omega arith, l .inv .4 ∙ sym (key-kept _ _ _ _ (c .before .before .before .before .before .before .before .before .before .before .before .before .before .before .release .ensures) (c .before .before .before .before .before .before .before .before .before .instruct .ensures .1 ((c .before .stays .ensures (not-false (c .before .stays .result) (c .if1 .left))) .1)) (c .before .before .tick .ensures) ((c .before .stays .ensures (not-false (c .before .stays .result) (c .if1 .left))) .0) ((c .before .stays .ensures (not-false (c .before .stays .result) (c .if1 .left))) .2)), l .inv .5 ∙ sym (group-kept _ _ _ _ (c .before .before .before .before .before .before .before .before .before .before .before .before .before .before .release .ensures) (c .before .before .before .before .before .before .before .before .before .instruct .ensures .1 ((c .before .stays .ensures (not-false (c .before .stays .result) (c .if1 .left))) .1)) (c .before .before .tick .ensures) ((c .before .stays .ensures (not-false (c .before .stays .result) (c .if1 .left))) .0) ((c .before .stays .ensures (not-false (c .before .stays .result) (c .if1 .left))) .2)), rw (chosen-kept _ _ _ _ (c .before .before .before .before .before .before .before .before .before .before .before .before .before .before .release .ensures) (c .before .before .before .before .before .before .before .before .before .instruct .ensures .1 ((c .before .stays .ensures (not-false (c .before .stays .result) (c .if1 .left))) .1)) (c .before .before .tick .ensures) ((c .before .stays .ensures (not-false (c .before .stays .result) (c .if1 .left))) .0) ((c .before .stays .ensures (not-false (c .before .stays .result) (c .if1 .left))) .2) (l .regs) _) (l .inv .6), rw (l .inv .7, steps-step mil1750 (l .left) (machine (joined (l .t) (l .regs)) (l .memory) (l .pages) (l .ports)) (c .before .before .before .before .before .before .before .before .before .before .before .before .before .before .before .loop-test .taken), ← became-machine (instruction-step mil1750 (machine (joined (l .t) (l .regs)) (l .memory) (l .pages) (l .ports)) _ refl _ _ _ _ _ _ (c .before .before .tick .ensures) _ (c .before .before .before .before .before .before .before .before .before .before .before .before .before .before .release .ensures (l .regs)) (l .inv .6) (c .before .before .before .before .before .before .before .before .before .instruct .ensures .0))) refl)
+loop-again c = let l = c .before .before .before .before .before .before .before .before .before .before .before .before .before .before .before .before .loop in let y = stayed _ _ _ _ _ (c .before .stays .ensures) (not-false (c .before .stays .result) (c .if1 .left)) in (c .before .before .before .before .before .before .before .before .before .instruct .kept .1 .1 .1 .1 .0 ∙ l .inv .0, c .before .before .before .before .before .before .before .before .before .instruct .kept .1 .1 .1 .1 .1 .0 ∙ l .inv .1, c .before .before .before .before .before .before .before .before .before .instruct .kept .1 .1 .1 .1 .1 .1 .0 ∙ l .inv .2, omega arith, l .inv .4 ∙ sym (part-kept _ _ _ _ (c .before .before .before .before .before .before .before .before .before .before .before .before .before .before .release .ensures) (c .before .before .before .before .before .before .before .before .before .instruct .ensures .1 (y .1)) (c .before .before .tick .ensures) (y .0) (y .2) keyOf ((c .before .before .before .before .before .before .before .before .before .instruct .ensures .1 (y .1)) .key-kept)), l .inv .5 ∙ sym (part-kept _ _ _ _ (c .before .before .before .before .before .before .before .before .before .before .before .before .before .before .release .ensures) (c .before .before .before .before .before .before .before .before .before .instruct .ensures .1 (y .1)) (c .before .before .tick .ensures) (y .0) (y .2) groupOf ((c .before .before .before .before .before .before .before .before .before .instruct .ensures .1 (y .1)) .group-kept)), rw (chosen-kept _ _ _ _ (c .before .before .before .before .before .before .before .before .before .before .before .before .before .before .release .ensures) (c .before .before .before .before .before .before .before .before .before .instruct .ensures .1 (y .1)) (c .before .before .tick .ensures) (y .0) (y .2) (l .regs) _) (l .inv .6), rw (l .inv .7, steps-step mil1750 (l .left) (machine (joined (l .t) (l .regs)) (l .memory) (l .pages) (l .ports)) (c .before .before .before .before .before .before .before .before .before .before .before .before .before .before .before .loop-test .taken), ← became-machine (instruction-step mil1750 (machine (joined (l .t) (l .regs)) (l .memory) (l .pages) (l .ports)) _ refl _ _ _ _ _ _ (c .before .before .tick .ensures) _ (c .before .before .before .before .before .before .before .before .before .before .before .before .before .before .release .ensures (l .regs)) (l .inv .6) (c .before .before .before .before .before .before .before .before .before .instruct .ensures .0))) refl)
 
 same-length-4 : tie.Need-same-length-4 Inv-loop μ-loop
 same-length-4 c = c .before .loop .inv .0
