@@ -25,31 +25,38 @@ def by(*unfolded, use=(), **answers):
 
 CORE = '(@args .core)'
 REGS = '(@args .regs .now)'
-JOINED = '(joined (@args .core) (@args .regs .now))'
+PLAIN = '(joined (@args .core) (@args .regs .now))'
+JOINED = '(later (@args .lag) %s)' % PLAIN
 LISTS = '(@args .memory .now) (@args .pages .now) (@args .ports .now)'
-MACHINE_AT = '(machine %s %s)' % (JOINED, LISTS)
 VERDICT = '_ _ _ (@reads .ensures .0) (@writes .ensures .0) (@verify .ensures)'
 WORDS = '(wordsOf (keyOf (@args .core .sw)) (groupOf (@args .core .sw)) (@args .pages .now) (length (@args .memory .now)) %s (@args .memory .now))'
-CLASS = 'rw (← @class-of .ensures, @%s .given .1, @%s .ensures .0) '
+CLASS = 'rw (← @class-of .ensures, @%s) '
+PREPARED = 'prepared-later (@args .lag) %s (view %s (@args .memory .now) (@args .pages .now)), ← @prepare .ensures' % (PLAIN, PLAIN)
+LATER = 'Rattle.interrupt.specs.Later.{later}'
 CHECKED = '← @key-of .ensures .0, ← @group-of .ensures .0, ← @check-span .ensures, @%s .given .1'
 # of the operations on blocks, 40 44 47 50 54, those of these places are not the one at hand
 def others(fact, places):
     return ' '.join('(no-block _ %s .%d)' % (fact, place) for place in places)
 
 
-PLAIN = '(sym (@is-block .ensures) ∙ @if1 .left)'
-FROM = '%s (@args .memory .now) (@args .pages .now) (@args .n) _ _ (@Start .pre .2) (@Start .pre .3) _ _ (@few-reads .ensures .2 %s) (@few-reads .ensures .0) (@gather .ensures)' % (JOINED, others(PLAIN, (0, 1, 2)))
+FEW = '(sym (@is-block .ensures) ∙ @if1 .left)'
+FROM = '%s (@args .memory .now) (@args .pages .now) (@args .n) _ _ (@Start .pre .2) (@Start .pre .3) _ _ (@few-reads .ensures .2 %s) (@few-reads .ensures .0) (@gather .ensures)' % (JOINED, others(FEW, (0, 1, 2)))
 TO = '@few-writes .ensures .2 ' + others('(@Start .pre .2)', (2, 3, 4))
 STORES = '%s %s (@args .n) _ _ _ _ (@Start .pre .4) (@Start .pre .5) (%s) (@check-span .ensures)' % (JOINED, LISTS, TO)
 # settled after a user's operation, by the call that gave its core; and never after anything else
 def settled(effect):
-    return 'settled-by (@args .core) _ _ (@args .regs .now) _ _ _ (@weighed .ensures .0) (@weighed .ensures .1) (@%s)' % effect
+    return 'settled-by (@args .core) _ _ (@args .regs .now) _ _ _ (@weighed .ensures .1) (@weighed .ensures .0) (@%s)' % effect
 
 
-def never(times=''):
-    return 'λ h. absurd (false≢true (sym (@unsettled%s .ensures .1) ∙ h))' % times
+def calm(effect, place):
+    return 'calm-after (@args .lag) (@args .core) _ (@args .regs .now) _ _ (@%s) (@Start .pre .%d)' % (effect, place)
 
 
+def never(fact='deny .ensures .0'):
+    return 'λ h. absurd (false≢true (sym (@%s) ∙ h))' % fact
+
+
+FAILED = 'failed %s _ %%s _ _ (@deny .ensures .1 (@args .regs .now))' % JOINED
 NEVER = 'mathlib.Core.Bool.{false≢true}'
 ASKED = ['not-false (@whole .result) (@if1 .left)', 'eq-eqb _ _ (@if2 .left)', 'eq-eqb _ _ (@if3 .left)', 'le-leb _ _ (@if4 .left)', 'le-leb _ _ (@if5 .left)']
 
@@ -63,46 +70,53 @@ A = {
     'act/verify': by(STAGES + ' both', use=[STATE + '{keyOf, groupOf}'],
         returns='rw (%s) (@check-span2 .ensures)' % (CHECKED % 'enum-told'), returns_2='rw (%s) refl' % (CHECKED % 'verdict')),
     'act/refuse': by(returns='λ regs. rw (← @advance .ensures) (@fault .ensures regs)'),
-    'act/weighed': by(returns='(refl, refl)'),
     'act/unsettled': by(returns='(refl, refl)'),
-    'act/carry_block': by(STAGES + ' operated', ISA + ' mil1750', use=[NEVER, ACT + '{carried-clear, carried-fault, failed, became-worked, block-user, settled-by}', STATE + '{joined}'],
-        block_requires='(@Start .pre .0, @Start .pre .1)',
-        returns='(λ ports. rw (@weighed .ensures .0, ← carried-clear %s (@args .memory .now) (@args .pages .now) ports (@args .n) %s (@enum-told .given .1), block-user _ (@Start .pre .1)) '
-            '(became-worked %s (@args .memory .now) (@args .pages .now) ports (@args .n) _ _ _ (@block .ensures)), %s)' % (JOINED, VERDICT, JOINED, settled('block .ensures .state-is')),
-        returns_2='(λ ports. rw (@unsettled .ensures .0, ← carried-fault %s (@args .memory .now) (@args .pages .now) ports (@args .n) %s _ (@verdict .given .1)) '
-            '(failed (@args .core) _ (@args .regs .now) (@args .memory .now) (@args .pages .now) ports _ _ (@refuse .ensures)), %s)' % (JOINED, VERDICT, never())),
+    'act/weighed': by(use=[TESTS, NEVER], tick_by_requires='@Start .pre',
+        returns='(rw (eq-eqb _ _ (@if1 .taken)) refl, λ h. refl, λ regs. refl)',
+        returns_2='(rw (@unsettled .ensures .1, ne-eqb _ _ (@if1 .left)) refl, %s, λ regs. rw (@unsettled .ensures .1, @unsettled .ensures .0) (@tick-by .ensures regs))' % never('unsettled .ensures .1')),
+    'act/deny': by(use=[STEP + '{faulted}'], tick_by_requires='@Start .pre',
+        returns='(@unsettled .ensures .1, λ regs. rw (@unsettled .ensures .0) (@fault .ensures regs ∙ ap (λ s. faulted s (@args .b) (@args .a)) (@tick-by .ensures regs)))'),
+    'act/carry_block': by(STAGES + ' operated', ISA + ' mil1750 contextOf', use=[NEVER, LATER, ACT + '{carried-clear, carried-fault, failed, became-worked, block-user, settled-by, calm-after}', STATE + '{joined}'],
+        block_requires='(@Start .pre .0, @Start .pre .1)', weighed_requires=calm('block .ensures .state-is', 2), deny_requires='@Start .pre .2',
+        returns='(λ ports. rw (← carried-clear %s (@args .memory .now) (@args .pages .now) ports (@args .n) %s (@enum-told .given .1), block-user _ (@Start .pre .1)) '
+            '(became-worked (@args .lag) %s (@args .memory .now) (@args .pages .now) ports (@args .n) _ _ _ _ (@block .ensures) (@weighed .ensures .2 _)), %s)' % (JOINED, VERDICT, PLAIN, settled('block .ensures .state-is')),
+        returns_2='(λ ports. rw (@deny .ensures .0, ← carried-fault %s (@args .memory .now) (@args .pages .now) ports (@args .n) %s _ (@verdict .given .1), ← @advance .ensures) (%s), %s)'
+            % (JOINED, VERDICT, FAILED % '(@args .memory .now) (@args .pages .now) ports', never())),
     'act/govern': by(use=[ACT + '{governed-done, governed-refused}']),
     'act/call': by(STEP + ' perform', STATE + ' withIc advanced',
         returns='λ regs ports. rw (← @call-vector .ensures, ← @advance .ensures) (@enter .ensures regs ports)'),
-    'act/operate': by(STAGES + ' operated', ISA + ' mil1750', use=[NEVER, ACT + '{few-written, worked-ordinary, first-three, became-worked, settled-by}', STATE + '{joined, keyOf, groupOf}', LENGTH,
+    'act/operate': by(STAGES + ' operated', ISA + ' mil1750 contextOf', use=[NEVER, LATER, ACT + '{few-written, worked-ordinary, first-three, became-worked, governed-at, called-at, settled-by, calm-after}', STATE + '{joined, keyOf, groupOf}', LENGTH,
             'Rattle.page.specs.Spans.{wordsOf}', 'Rattle.isa.specs.Accesses.{readsOf}'],
-        work_requires='(@Start .pre .0, rw (@Start .pre .4) (few-written (@args .regs .now) (@args .n) (@Start .pre .2)))',
-        returns='(' + CLASS % ('enum-told', 'weighed') + '(became-worked %s %s (@args .n) _ _ _ (worked-ordinary %s (@args .memory .now) (@args .pages .now) (@args .n) _ _ _ _ (@args .to) _ _ '
-            '(@Start .pre .2) (@Start .pre .3) (@Start .pre .4) (@work .ensures .0) (@work .ensures .1))), %s)' % (JOINED, LISTS, JOINED, settled('work .ensures .0')),
-        returns_2='(' + CLASS % ('enum-told2', 'unsettled') + '(rw (← first-three %s (@args .pages .now) (@args .ports .now) (@args .n) %s _ _ _ (@Start .pre .3)) (@govern .ensures (@args .memory .now))), %s)'
-            % (JOINED, WORDS % '(readsOf (@args .regs .now) (@args .n))', never()),
-        returns_3='(' + CLASS % ('enum-told3', 'unsettled2') + '(@call .ensures (@args .regs .now) (@args .ports .now)), %s)' % never('2')),
-    'act/proceed': by(use=[NEVER, ACT + '{no-block, accessed-clear, accessed-fault, failed}', STATE + '{joined}'],
-        check_span_requires='(@Start .pre .0, @Start .pre .6)',
-        operate_requires='(@Start .pre .0, @Start .pre .1, @Start .pre .2, @Start .pre .3, %s)' % TO,
+        work_requires='(@Start .pre .0, rw (@Start .pre .4) (few-written (@args .regs .now) (@args .n) (@Start .pre .2)))', weighed_requires=calm('work .ensures .0', 5),
+        tick_by_requires='@Start .pre .5', tick_by_requires_2='@Start .pre .5',
+        returns='(' + CLASS % 'enum-told .given .1' + '(became-worked (@args .lag) %s %s (@args .n) _ _ _ _ (worked-ordinary %s (@args .memory .now) (@args .pages .now) (@args .n) _ _ _ _ (@args .to) _ _ '
+            '(@Start .pre .2) (@Start .pre .3) (@Start .pre .4) (@work .ensures .0) (@work .ensures .1)) (@weighed .ensures .2 _)), %s)' % (PLAIN, LISTS, PLAIN, settled('work .ensures .0')),
+        returns_2='(' + CLASS % ('enum-told2 .given .1, @unsettled .ensures .1, @unsettled .ensures .0') + '(rw (← first-three %s (@args .pages .now) (@args .ports .now) (@args .n) %s _ _ _ (@Start .pre .3)) '
+            '(governed-at _ _ %s (@args .n) _ _ _ _ (@tick-by .ensures %s) (@govern .ensures (@args .memory .now)))), %s)'
+            % (JOINED, WORDS % '(readsOf (@args .regs .now) (@args .n))', LISTS, REGS, never('unsettled .ensures .1')),
+        returns_3='(' + CLASS % ('enum-told3 .given .1, @unsettled2 .ensures .1, @unsettled2 .ensures .0') + '(called-at _ _ %s _ _ _ (@tick-by2 .ensures %s) (@call .ensures (@args .regs .now) (@args .ports .now))), %s)'
+            % (LISTS, REGS, never('unsettled2 .ensures .1'))),
+    'act/proceed': by(use=[NEVER, LATER, ACT + '{no-block, accessed-clear, accessed-fault, failed}', STATE + '{joined}'],
+        check_span_requires='(@Start .pre .0, @Start .pre .6)', deny_requires='@Start .pre .7',
+        operate_requires='(@Start .pre .0, @Start .pre .1, @Start .pre .2, @Start .pre .3, %s, @Start .pre .7)' % TO,
         returns='(rw (← accessed-clear %s (@enum-told .given .1)) (@operate .ensures .0), @operate .ensures .1)' % STORES,
-        returns_2='(rw (@unsettled .ensures .0, ← accessed-fault %s _ (@verdict .given .1)) (failed (@args .core) _ (@args .regs .now) %s _ _ (@refuse .ensures)), %s)' % (STORES, LISTS, never())),
-    'act/carry': by(use=[NEVER, ACT + '{no-block, words-read, carried-read, carried-denied, failed}', STATE + '{joined}'],
-        carry_block_requires='(@Start .pre .0, sym (@is-block .ensures) ∙ @if1 .taken)',
+        returns_2='(rw (@deny .ensures .0, ← accessed-fault %s _ (@verdict .given .1), ← @advance .ensures) (%s), %s)' % (STORES, FAILED % LISTS, never())),
+    'act/carry': by(use=[NEVER, LATER, ACT + '{no-block, words-read, carried-read, carried-denied, failed}', STATE + '{joined}'],
+        carry_block_requires='(@Start .pre .0, sym (@is-block .ensures) ∙ @if1 .taken, @Start .pre .5)', deny_requires='@Start .pre .5',
         gather_requires='(@Start .pre .0, @Start .pre .4, @few-reads .ensures .1)',
-        proceed_requires='(@Start .pre .0, @Start .pre .1, sym (@is-block .ensures) ∙ @if1 .left, words-read %s (@if2 .taken), @Start .pre .2, @Start .pre .3, @Start .pre .4)' % FROM,
+        proceed_requires='(@Start .pre .0, @Start .pre .1, sym (@is-block .ensures) ∙ @if1 .left, words-read %s (@if2 .taken), @Start .pre .2, @Start .pre .3, @Start .pre .4, @Start .pre .5)' % FROM,
         returns='(@carry-block .ensures .0 (@args .ports .now), @carry-block .ensures .1)',
         returns_2='(rw (← carried-read %s (@args .ports .now) (@if2 .taken)) (@proceed .ensures .0), @proceed .ensures .1)' % FROM,
-        returns_3='(rw (@unsettled .ensures .0, ← carried-denied %s (@args .ports .now) (@if2 .left)) (failed (@args .core) _ (@args .regs .now) %s _ _ (@refuse .ensures)), %s)' % (FROM, LISTS, never())),
-    'act/instruct': by(STAGES + ' instructed carried', use=[NEVER, ACT + '{failed}'],
-        prepare_requires='(@Start .pre .0, @Start .pre .3, @Start .pre .4, @Start .pre .5, @Start .pre .2)',
-        carry_requires='(@Start .pre .0, @Start .pre .1, @Start .pre .3, @Start .pre .4, @Start .pre .5)',
-        returns='(rw (← @prepare .ensures, @prepared .given .1) (@carry .ensures .0), @carry .ensures .1)',
-        returns_2='(rw (@unsettled .ensures .0, ← @prepare .ensures, @prepared2 .given .1) (failed (@args .core) _ (@args .regs .now) %s _ _ (@fault .ensures)), %s)' % (LISTS, never())),
+        returns_3='(rw (@deny .ensures .0, ← carried-denied %s (@args .ports .now) (@if2 .left), ← @advance .ensures) (%s), %s)' % (FROM, FAILED % LISTS, never())),
+    'act/instruct': by(STAGES + ' instructed carried', use=[NEVER, LATER, ACT + '{failed, prepared-later}', STAGES + '{view}', STATE + '{joined}'],
+        prepare_requires='(@Start .pre .0, @Start .pre .3, @Start .pre .4, @Start .pre .5, @Start .pre .2)', deny_requires='@Start .pre .6',
+        carry_requires='(@Start .pre .0, @Start .pre .1, @Start .pre .3, @Start .pre .4, @Start .pre .5, @Start .pre .6)',
+        returns='(rw (%s, @prepared .given .1) (@carry .ensures .0), @carry .ensures .1)' % PREPARED,
+        returns_2='(rw (@deny .ensures .0, %s, @prepared2 .given .1) (%s), %s)' % (PREPARED, FAILED % LISTS, never())),
     'run/interrupted': by(STEP + ' perform', use=[LAWS + '{entry-step}', STATE + '{joined}', MACHINE + '{machine}', ISA + '{mil1750}'],
         returns='λ regs ports e. entry-step mil1750 (machine (joined (@args .core) regs) (@args .memory .now) (@args .pages .now) ports) _ e _ _ regs _ _ ports (@tick .ensures) (@Start .pre .1) '
             '(rw (← @release .ensures regs, ← @vector .ensures) (@enter .ensures regs ports))'),
-    'run/stays': by(returns='rw (@if1 .taken) refl', returns_2='rw (@if1 .left, @if2 .taken) refl', returns_3='rw (@if1 .left, @if2 .left) refl'),
+    'run/spare': by(use=[OMEGA], returns='(rw (@if1 .taken) refl, omega arith, λ h. absurd (omega arith))', returns_2='(rw (@if1 .left) refl, omega arith, λ h. @if1 .left)'),
     'run/go_on': {},
     'run/whole': by(RUNS + ' wholePages', use=[TESTS],
         returns='rw (eq-eqb _ _ (@if1 .taken), le-leb _ _ (@if2 .taken)) refl', returns_2='rw (eq-eqb _ _ (@if1 .taken), lt-leb _ _ (@if2 .left)) refl',
@@ -127,27 +141,41 @@ def lengths(call, place):
 
 
 TURN = 'rw (l .inv .%%d, steps-step mil1750 (l .left) %s (@loop-test .taken), ← became-machine (%%s)) refl' % HERE
-STEPPED = ('instruction-step mil1750 %s _ refl _ _ _ _ _ _ (@tick .ensures) _ (@release .ensures (l .regs)) (l .inv .6) (@instruct .ensures .0)' % HERE)
-STAYED = 'stayed _ _ _ _ _ (@stays .ensures) (not-false (@stays .result) (@if1 .left))'
-SETTLED = '(@instruct .ensures .1 (y .1))'
-KEPT = '_ _ _ _ (@release .ensures) %s (@tick .ensures) (y .0) (y .2)' % SETTLED
+GIVEN_LISTS = '(@args .memory .now) (@args .pages .now) (@args .ports .now)'
+BEGUN = 'going-start mil1750 (@args .n) (machine (joined (@args .core) (@args .regs .now)) %s) _ (@release .ensures (@args .regs .now)) (@Start .pre .6) (@Start .pre .7)' % GIVEN_LISTS
+AT = 'mil1750 (@args .n - (l .lag + 1)) (later (l .lag) (joined (l .t) (l .regs))) (l .memory) (l .pages) (l .ports) (l .lag) (@instruct .result .settled) (@instruct .result .core) _ _ _ _ (@instruct .ensures .0)'
+LATE = 'l .inv .11 (@loop-test .taken) ∙ going-late %s %%s y' % AT
+GOES = 'going mil1750 (n - 1) (joined t₀ regs₀) memory₀ pages₀ ports₀ ≡ '
 A['run/go_on'] = {
-    'use': [EQUATIONS, OMEGA, TESTS, LENGTH, 'Prim.Native.Nat.{_≤_}', STATE + '{keyOf, groupOf, joined}', MACHINE + '{machine}', RUNS + '{steps}', ISA + '{mil1750}',
-            'Rattle.machine.specs.Entries.{chosen}', STEP + '{perform, released}',
-            LAWS + '{steps-step, instruction-step, sw-released, stayed, chosen-kept, part-kept}', 'Rattle.machine.proofs.MachineLaws.{became-machine}'],
-    'Inv-loop': '(length memory ≡ length memory₀) × (length pages ≡ length pages₀) × (length ports ≡ length ports₀) × (left ≤ left₀) × '
-        '(key ≡ keyOf (t .sw)) × (group ≡ groupOf (t .sw)) × (16 ≤ chosen (joined t regs)) × '
-        '(steps mil1750 left₀ (machine (joined t₀ regs₀) memory₀ pages₀ ports₀) ≡ steps mil1750 left (machine (joined t regs) memory pages ports))',
-    'μ-loop': 'left', 'loop-holds': '(refl, refl, refl, omega arith, @Start .pre .3, @Start .pre .4, @Start .pre .7, refl)', 'default': 'omega arith',
-    'instruct-requires': '(omega arith, omega arith, @Start .pre .2, @loop .inv .4 ∙ ap keyOf (sw-released _ _ (@release .ensures)), @loop .inv .5 ∙ ap groupOf (sw-released _ _ (@release .ensures)), @Start .pre .5)',
-    'same-length-4': '@loop .inv .0', 'same-length-5': '@loop .inv .1', 'same-length-6': '@loop .inv .2',
-    'loop-again': 'let l = @loop in let y = %s in (%s, omega arith, l .inv .4 ∙ sym (part-kept %s keyOf (%s .key-kept)), l .inv .5 ∙ sym (part-kept %s groupOf (%s .group-kept)), rw (chosen-kept %s (l .regs) _) (l .inv .6), %s)'
-        % (STAYED, lengths('instruct', 4), KEPT, SETTLED, KEPT, SETTLED, KEPT, TURN % (7, STEPPED)),
-    'returns': 'let l = @loop in (omega arith, %s)' % (TURN % (7, STEPPED)),
-    'returns-2': '(omega arith, @loop .inv .7)'}
+    'use': [EQUATIONS, OMEGA, TESTS, LENGTH, 'Prim.Native.Nat.{_+_, _≤_, _<_, _-_}', STATE + '{keyOf, groupOf, joined}', MACHINE + '{machine}', RUNS + '{steps}', ISA + '{mil1750}',
+            'mathlib.Core.Bool.{false}', 'Rattle.machine.specs.Entries.{chosen}', STEP + '{ticked}', 'Rattle.interrupt.specs.Later.{Calm, later}', 'Rattle.interrupt.proofs.LaterLaws.{calm-fewer, later-none}',
+            LAWS + '{going, going-start, going-end, going-late, going-on, sw-released, hold-released, chosen-released, calm-released, chosen-settled, calm-settled}'],
+    'Inv-loop': '(length memory ≡ length memory₀) × (length pages ≡ length pages₀) × (length ports ≡ length ports₀) × (lag ≤ most) × (0 < most) × (most ≤ n) × '
+        '(key ≡ keyOf (t .sw)) × (group ≡ groupOf (t .sw)) × (t .hold ≡ false) × Calm (most - 1) t × (1 < most → 16 ≤ chosen (joined t regs)) × '
+        '(lag < most → ' + GOES + 'going mil1750 (n - (lag + 1)) (later lag (joined t regs)) memory pages ports) × '
+        '(0 < lag → ' + GOES + 'steps mil1750 (n - lag) (machine (ticked (later (lag - 1) (joined t regs))) memory pages ports))',
+    'μ-loop': 'most - lag', 'default': 'omega arith',
+    'sub-spare': 'omega (arith, @Start .pre .6)', 'add-most': 'omega (arith, @quiet .ensures .1, @spare .ensures .1)',
+    'loop-holds': '(refl, refl, refl, omega arith, omega arith, omega (arith, @quiet .ensures .1, @spare .ensures .1, @Start .pre .6), '
+        '@Start .pre .3 ∙ ap keyOf (sw-released _ _ (@release .ensures)), @Start .pre .4 ∙ ap groupOf (sw-released _ _ (@release .ensures)), hold-released _ _ (@release .ensures), '
+        'calm-fewer _ _ _ (omega arith) (calm-released _ _ (@release .ensures) _ (@quiet .ensures .2)), '
+        'λ h. rw (chosen-released _ _ (@release .ensures) (@spare .ensures .2 (omega (arith, h, @quiet .ensures .1))) (@args .regs .now)) (@Start .pre .7), '
+        'λ h. sym (ap (λ s. going mil1750 (@args .n - 1) s %s) (later-none (joined (@release .result) (@args .regs .now)))), λ h. absurd (omega arith))' % GIVEN_LISTS,
+    'add-lag': 'omega (arith, @loop-test .taken, @loop .inv .5, @Start .fits .n .fits)',
+    'instruct-requires': '(omega arith, omega arith, @Start .pre .2, @loop .inv .6, @loop .inv .7, @Start .pre .5, calm-fewer _ _ _ (omega (arith, @loop-test .taken)) (@loop .inv .9))',
+    'loop-again': 'let l = @loop in let y = not-false (@instruct .result .settled) (@if1 .left) in let s = @instruct .ensures .1 y in '
+        '(%s, omega arith, l .inv .4, l .inv .5, l .inv .6 ∙ sym (s .key-kept), l .inv .7 ∙ sym (s .group-kept), s .hold-kept ∙ l .inv .8, calm-settled _ _ s _ (l .inv .9), '
+        'λ h. rw (chosen-settled _ _ s (l .regs) _) (l .inv .10 h), '
+        'λ h. %s ∙ going-on mil1750 _ (@args .n - (l .lag + 1 + 1)) _ _ _ _ _ _ (omega (arith, h, l .inv .5)) (s .hold-kept ∙ l .inv .8) (rw (chosen-settled _ _ s (l .regs) _) (l .inv .10 (omega (arith, h)))) '
+        '(calm-fewer _ _ _ (omega (arith, h)) (calm-settled _ _ s _ (l .inv .9))), λ h. %s)' % (lengths('instruct', 5), LATE % '(l .lag) refl', LATE % '(l .lag + 1 - 1) (omega arith)'),
+    'returns': 'let l = @loop in (omega arith, %s ∙ l .inv .11 (@loop-test .taken) ∙ going-end %s _ (@tick .ensures) (not-true (@instruct .result .settled) (@if1 .taken)))' % (BEGUN, AT),
+    'tick-by-requires': 'calm-fewer _ _ _ (omega arith) (@loop .inv .9)',
+    'returns-2': 'let l = @loop in (omega arith, %s ∙ l .inv .12 (omega arith) ∙ '
+        'sym (ap (λ s. steps mil1750 (@args .n - l .lag) (machine s (l .memory) (l .pages) (l .ports))) (@tick2 .ensures (l .regs) ∙ ap ticked (@tick-by .ensures (l .regs)))))' % BEGUN}
 CHOSEN = '(@choose .ensures (joined (@loop .t) (@loop .regs)) refl refl refl refl)'
 for place in range(3):
-    A['run/go_on'][('same-length', 'same-length-2', 'same-length-3')[place]] = 'let l = @loop in ' + lengths('instruct', 4).split(', ')[place]
+    A['run/go_on'][('same-length', 'same-length-2', 'same-length-3')[place]] = 'let l = @loop in ' + lengths('instruct', 5).split(', ')[place]
+    A['run/go_on'][('same-length-4', 'same-length-5', 'same-length-6')[place]] = '@loop .inv .%d' % place
 A['run/run_steps'] = {
     'use': [EQUATIONS, OMEGA, LENGTH, STATE + '{joined}', MACHINE + '{machine}', RUNS + '{steps}', ISA + '{mil1750}', LAWS + '{steps-none, steps-step}',
             'Rattle.machine.proofs.MachineLaws.{became-machine, machine-became}'],

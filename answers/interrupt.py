@@ -51,3 +51,19 @@ A = {
     'time/tick': by(STEP + ' ticked counted risesB', STATE + ' withPi withTa withTb withCount', use=[EQUATIONS],
         returns='λ regs. rw (← @wrapping-add-u32 .ensures, ← @rises-b .ensures, ← @pass .ensures 7 refl, ← @pass2 .ensures 9 refl, ← @rise .ensures, ← @rise2 .ensures) refl'),
 }
+LATER = 'Rattle.interrupt.specs.Later.'
+LIMITS = 'borrow.Author.Tests.{lt-ltb, le-ltb}'
+RAISED = 'omega (arith, @Start .pre (@if1 .taken))'
+A['later/raised'] = by(use=[EQUATIONS, OMEGA], add_result=RAISED, cast_result=RAISED, returns='rw (@if1 .taken)', returns_2='rw (@if1 .left)')
+A['later/tick_by'] = by(use=[EQUATIONS, OMEGA], add_count='omega (arith, @Start .pre .count-inside)', sub_tens='omega arith',
+    raised_requires='@Start .pre .a-inside', raised_requires_2='λ e. omega (arith, @Start .pre .b-inside e)',
+    returns='λ regs. rw (← @raised .ensures, ← @raised2 .ensures) refl')
+A['later/room'] = by(LATER + ' roomOf', use=[EQUATIONS, OMEGA, LIMITS],
+    returns='(rw (@if1 .taken, lt-ltb _ _ (@if2 .taken)) refl, omega arith, λ e. omega arith)',
+    returns_2='(rw (@if1 .taken, le-ltb _ _ (@if2 .left)) refl, omega arith, λ e. omega arith)',
+    returns_3='(rw (@if1 .left) refl, omega arith, λ e. absurd (false≢true (sym (@if1 .left) ∙ e)))')
+A['later/room']['use'].append('mathlib.Core.Bool.{false≢true}')
+CALM = 'record { a-inside = λ e. omega (arith, @room .ensures .2 e, @room2 .ensures .1%s); b-inside = λ e. omega (arith, @room2 .ensures .2 e%s); count-inside = omega arith }'
+A['later/quiet'] = by(LATER + ' quietOf', use=[EQUATIONS, OMEGA, LIMITS],
+    returns='(rw (← @room .ensures .0, ← @room2 .ensures .0, lt-ltb _ _ (@if1 .taken)) refl, omega (arith, @room .ensures .1, @room2 .ensures .1), %s)' % CALM % ('', ''),
+    returns_2='(rw (← @room .ensures .0, ← @room2 .ensures .0, le-ltb _ _ (@if1 .left)) refl, omega (arith, @room .ensures .1, @room2 .ensures .1), %s)' % CALM % ('', ''))

@@ -232,7 +232,7 @@ def filled(body, answer, answers, paths):
         names = unfolds.get(need, unfolds.get('*') if need.startswith(('returns', 'loop-again')) else None)
         return found.group(0) + (f'unfolding {names}\n' if names else '')
 
-    body = re.sub(r'^([^\s:=]+)((?: [^\s=]+)*) = (\?|search needs)$', fill, body, flags=re.M)
+    body = re.sub(r'^([^\s:=]+)((?: [^\s=]+)*) =\s+(\?|search needs)$', fill, body, flags=re.M)
     body = re.sub(r'^([^\s:=]+) : tie\.Need-.*\n', unfold, body, flags=re.M)
     return re.sub(r'^-- src/.*\n', '', body, flags=re.M)
 

@@ -10,6 +10,8 @@ use borrow.Author.Tests.{leb-true, eqb-true}
 use Rattle.choice.specs.Select.{select}
 use Rattle.choice.proofs.TestLaws as tests
 use Rattle.page.specs.declared.Access.the-variants.{Read, Write}
+use Rattle.page.specs.declared.Got.{Got}
+use Rattle.page.specs.declared.Got.the-variants.{Word, Missed}
 use Rattle.page.specs.declared.Verdict.{Verdict}
 use Rattle.page.specs.declared.Verdict.the-variants.{Clear, Fault}
 use Rattle.page.specs.declared.Span.{Span}
@@ -22,7 +24,7 @@ use Rattle.machine.specs.declared.Class.the-variants.{User}
 use Rattle.machine.specs.declared.Prepared.the-variants.{Ready}
 use Rattle.machine.specs.State.{keyOf, groupOf, withPi, withSw, withIc, withRegs, advanced, joined}
 use Rattle.machine.specs.Machine.{Became, Effect, Supervised, nextOf, spanFrom}
-use Rattle.machine.specs.Instructions.{fail, affect, view, both, supervised, operated, accessed, carried}
+use Rattle.machine.specs.Instructions.{call, fail, affect, View, view, permitted, redirected, derived, extended, granted, decoded, fetched, prepared, both, supervised, operated, accessed, carried}
 use Rattle.machine.specs.Step.{faulted, affected, stored, perform}
 use Rattle.isa.specs.Fields.{fieldA, register}
 use Rattle.isa.specs.Addressing.{inMemory}
@@ -38,6 +40,8 @@ use Rattle.block.specs.Operation.{isBlock, Worked}
 use Rattle.machine.proofs.StepLaws.{keeps-key, keeps-group}
 use Rattle.ordinary.specs.declared.Gathered.{Gathered}
 use Rattle.ordinary.specs.Gathers.{FirstThree, complete, denied, gathered}
+use Rattle.interrupt.specs.Later.{Calm, later}
+use Rattle.interrupt.proofs.LaterLaws.{calm-alike}
 use Rattle.cpu.specs.Settled.{Settled}
 
 -- ---- the verdict on the accesses of a ready instruction
@@ -119,25 +123,73 @@ module _ (s : State) (m g o : List ℕ) (n : Instruction) (key group : ℕ) (to 
 -- ---- whether the choice of an interrupt stays
 
 -- a user's effect leaves it, as long as PI is what it was
-pub settled-by : (c d r : Core) (regs regs' : List ℕ) (e : Effect) (b : Bool) → r ≡ d → b ≡ eqb (d .pi) (c .pi) → joined d regs' ≡ affected (joined c regs) e
+pub settled-by : (c d r : Core) (regs regs' : List ℕ) (e : Effect) (b : Bool) → (b ≡ true → r ≡ d) → b ≡ eqb (d .pi) (c .pi) → joined d regs' ≡ affected (joined c regs) e
     → b ≡ true → Settled c r
 unfolding affected withPi withSw withIc withRegs
 settled-by c d r regs regs' e b i t h k =
-    rw i (record {
+    rw (i k) (record {
       pi-kept = eqb-true (d .pi) (c .pi) (sym t ∙ k);
       mk-kept = ap (λ (s : State). s .mk) h;
       enabled-kept = ap (λ (s : State). s .enabled) h;
       hold-kept = ap (λ (s : State). s .hold) h;
       key-kept = ap (λ (s : State). keyOf (s .sw)) h ∙ keeps-key (c .sw) (e .cs);
       group-kept = ap (λ (s : State). groupOf (s .sw)) h ∙ keeps-group (c .sw) (e .cs);
+      ta-kept = ap (λ (s : State). s .ta) h;
+      tb-kept = ap (λ (s : State). s .tb) h;
+      taon-kept = ap (λ (s : State). s .taon) h;
+      tbon-kept = ap (λ (s : State). s .tbon) h;
+      count-kept = ap (λ (s : State). s .count) h;
     })
+
+-- and the time
+pub calm-after : (n : ℕ) (c d : Core) (regs regs' : List ℕ) (e : Effect) → joined d regs' ≡ affected (joined c regs) e → Calm n c → Calm n d
+unfolding affected withPi withSw withIc withRegs
+calm-after n c d regs regs' e h =
+    calm-alike n c d (ap (λ (s : State). s .ta) h) (ap (λ (s : State). s .tb) h) (ap (λ (s : State). s .taon) h) (ap (λ (s : State). s .tbon) h) (ap (λ (s : State). s .count) h)
+
+-- ---- an instruction up to its accesses does not see the time
+
+module _ (n : ℕ) (s : State) (v : View) where
+  redirected-later : (f w x : ℕ) (got : Got) → redirected (later n s) f w x got ≡ redirected s f w x got
+  unfolding redirected advanced
+  redirected-later f w x (Word a) = refl
+  redirected-later f w x (Missed b) = refl
+
+  derived-later : (f w x : ℕ) (b : Bool) → derived mil1750 (later n s) v f w x b ≡ derived mil1750 s v f w x b
+  unfolding derived mil1750
+  derived-later f w x false = refl
+  derived-later f w x true = redirected-later f w x (v .read (mil1750 .base (modeOf f) s w x))
+
+  extended-later : (f w : ℕ) (got : Got) → extended mil1750 (later n s) v f w got ≡ extended mil1750 s v f w got
+  unfolding extended advanced
+  extended-later f w (Word x) = derived-later f w x (eqb (modeOf f) 7)
+  extended-later f w (Missed b) = refl
+
+  granted-later : (f w : ℕ) (a b : Bool) → granted mil1750 (later n s) v f w a b ≡ granted mil1750 s v f w a b
+  unfolding granted advanced
+  granted-later f w false b = refl
+  granted-later f w true false = derived-later f w 0 (eqb (modeOf f) 7)
+  granted-later f w true true = extended-later f w (v .fetch (advanced s 1))
+
+  decoded-later : (f w : ℕ) (b : Bool) → decoded mil1750 (later n s) v f w b ≡ decoded mil1750 s v f w b
+  unfolding decoded advanced
+  decoded-later f w true = refl
+  decoded-later f w false = granted-later f w (permitted (mil1750 .class (operationOf f)) (keyOf (s .sw))) (eqb (lengthOf f) 2)
+
+  fetched-later : (got : Got) → fetched mil1750 (later n s) v got ≡ fetched mil1750 s v got
+  unfolding fetched advanced
+  fetched-later (Word w) = decoded-later (mil1750 .decode w) w (eqb (mil1750 .decode w) 0)
+  fetched-later (Missed b) = refl
+
+  pub prepared-later : prepared mil1750 (later n s) v ≡ prepared mil1750 s v
+  unfolding prepared
+  prepared-later = fetched-later (v .fetch (s .ic))
 
 -- ---- a fault
 
-pub failed : (c r : Core) (regs m g o : List ℕ) (b a : ℕ) → ((x : List ℕ) → joined r x ≡ faulted (joined c x) b a)
-    → Became (perform (joined c regs) m g o (fail b a)) (joined r regs) m g o
+pub failed : (s t : State) (m g o : List ℕ) (b a : ℕ) → t ≡ faulted s b a → Became (perform s m g o (fail b a)) t m g o
 unfolding perform
-failed c r regs m g o b a f = record { state-is = f regs; memory-is = refl; pages-is = refl; ports-is = refl }
+failed s t m g o b a f = record { state-is = f; memory-is = refl; pages-is = refl; ports-is = refl }
 
 -- ---- a user's operation
 
@@ -220,10 +272,11 @@ worked-ordinary s m g n ws x y z to t w h e j p q =
     rw (e .first-is, e .second-is, e .third-is) (ordinary-executed (contextOf s) n h ws) in
     record { state-is = p ∙ ap (affected s) d; memory-is = q ∙ ap (λ k. stored s m g k to) d ∙ ap (stored s m g (executed (contextOf s) n ws)) j }
 
-pub became-worked : (s : State) (m g o : List ℕ) (n : Instruction) (e : Effect) (t : State) (w : List ℕ)
-    → Worked s m g n e t w → Became (perform s m g o (affect e (writesOf (s .regs) n))) t w g o
-unfolding perform
-became-worked s m g o n e t w b = record { state-is = b .state-is; memory-is = b .memory-is; pages-is = refl; ports-is = refl }
+-- the same n ticks later, after which the state is u
+pub became-worked : (n : ℕ) (s : State) (m g o : List ℕ) (i : Instruction) (e : Effect) (t u : State) (w : List ℕ)
+    → Worked s m g i e t w → u ≡ later n t → Became (perform (later n s) m g o (affect e (writesOf (s .regs) i))) u w g o
+unfolding perform affected stored withPi withSw withIc withRegs
+became-worked n s m g o i e t u w b h = record { state-is = h ∙ ap (later n) (b .state-is); memory-is = b .memory-is; pages-is = refl; ports-is = refl }
 
 -- ---- a privileged operation: it sees the first three words alone
 
@@ -231,6 +284,15 @@ pub first-three : (s : State) (g o : List ℕ) (n : Instruction) (ws : List ℕ)
     → supervisedBy s g o n (x ∷ y ∷ z ∷ []) ≡ supervisedBy s g o n ws
 unfolding supervisedBy
 first-three s g o n ws x y z e = rw (e .first-is, e .second-is, e .third-is) refl
+
+-- from a state that is equal
+pub governed-at : (s u : State) (m g o : List ℕ) (n : Instruction) (ws : List ℕ) (t : State) (g' o' : List ℕ) → s ≡ u
+    → Became (perform s m g o (supervised s n (supervisedBy s g o n ws))) t m g' o' → Became (perform u m g o (supervised u n (supervisedBy u g o n ws))) t m g' o'
+governed-at s u m g o n ws t g' o' e b = subst (λ k. Became (perform k m g o (supervised k n (supervisedBy k g o n ws))) t m g' o') e b
+
+pub called-at : (s u : State) (m g o : List ℕ) (k : ℕ) (t : State) (m' : List ℕ) → s ≡ u
+    → Became (perform s m g o (call k)) t m' g o → Became (perform u m g o (call k)) t m' g o
+called-at s u m g o k t m' e b = subst (λ w. Became (perform w m g o (call k)) t m' g o) e b
 
 module _ (c : Core) (m : List ℕ) (n : Instruction) (regs regs' g g' o o' : List ℕ) (v : Governed) (q : Supervised) (e : governed v regs' g' o' ≡ q) where
   pub governed-done : (t : Core) → v ≡ Done t → Became (perform (joined c regs) m g o (supervised (joined c regs) n q)) (joined t regs') m g' o'

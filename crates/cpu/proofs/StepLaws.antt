@@ -1,5 +1,5 @@
 -- What a step does, its end, what stays over it, a run's steps by a turn, and what the questions before a run let through. Assumes nothing.
-use Prim.Native.Nat.{ℕ, zero, suc, _-_, _≤_, _<_}
+use Prim.Native.Nat.{ℕ, zero, suc, _+_, _-_, _≤_, _<_}
 use mathlib.Core.Path.{_≡_, refl, sym, ap, subst, _∙_}
 use mathlib.Core.Bool.{Bool, true, false, not, _&&_, false≢true}
 use mathlib.Core.List.{List, []}
@@ -12,12 +12,15 @@ use Rattle.machine.specs.declared.Core.{Core}
 use Rattle.machine.specs.declared.Answer.{Answer}
 use Rattle.machine.specs.declared.Answer.the-variants.{Spent, BadMemory, BadPages, BadPorts, BadBudget, BadCounter}
 use Rattle.machine.specs.State.{withPi, withHold, withTa, withTb, withCount, joined}
-use Rattle.machine.specs.Machine.{Machine, Became, Isa}
+use Rattle.machine.specs.Machine.{Machine, machine, Became, Isa}
 use Rattle.machine.specs.Instructions.{enter, view, instructed}
 use Rattle.machine.specs.Entries.{takeable, chosen}
 use Rattle.machine.specs.Step.{released, perform, begun, action, ticked, tick, step}
 use Rattle.machine.specs.Runs.{numberOf, asked, admission, steps}
-use Rattle.cpu.specs.Settled.{Settled}
+use Rattle.machine.proofs.MachineLaws.{became-machine}
+use Rattle.interrupt.specs.Later.{Calm, later}
+use Rattle.interrupt.proofs.LaterLaws.{calm-alike, ticked-later}
+use Rattle.cpu.specs.Settled.{Settled, after}
 
 -- ---- what a step does, from the interrupt n that is chosen
 
@@ -45,45 +48,40 @@ module _ (isa : Isa) (x : Machine) (n : ℕ) (e : n ≡ chosen (x .state)) (c r 
   unfolding step
   entry-step h b = became-ticked _ c r regs m g o (rw (← enters isa x n e h) b) f
 
-  -- u is the state with the hold mark cleared
-  pub instruction-step : (u : State) → u ≡ released (x .state) → 16 ≤ n
-      → Became (perform u (x .memory) (x .pages) (x .ports) (instructed isa u (x .pages) (x .ports) (view u (x .memory) (x .pages)))) (joined c regs) m g o
-      → Became (step isa x) (joined r regs) m g o
-  unfolding step
-  instruction-step u k h b =
-      let done = subst (λ w. Became (perform w (x .memory) (x .pages) (x .ports) (instructed isa w (x .pages) (x .ports) (view w (x .memory) (x .pages)))) (joined c regs) m g o) k b in
-      became-ticked _ c r regs m g o (rw (← instructs isa x n e h) done) f
+-- ---- what stays
 
--- SW stays where the hold mark is cleared
-pub sw-released : (t f : Core) → ((v : List ℕ) → joined f v ≡ released (joined t v)) → t .sw ≡ f .sw
+-- over the clearing of the hold mark, from the core t to f
+module _ (t f : Core) (a : (v : List ℕ) → joined f v ≡ released (joined t v)) where
+  pub sw-released : t .sw ≡ f .sw
+  unfolding released withHold
+  sw-released = sym (ap (λ (u : State). u .sw) (a []))
+
+  pub hold-released : f .hold ≡ false
+  unfolding released withHold
+  hold-released = ap (λ (u : State). u .hold) (a [])
+
+  pub calm-released : (n : ℕ) → Calm n t → Calm n f
+  unfolding released withHold
+  calm-released n =
+      calm-alike n t f (ap (λ (s : State). s .ta) (a [])) (ap (λ (s : State). s .tb) (a [])) (ap (λ (s : State). s .taon) (a []))
+      (ap (λ (s : State). s .tbon) (a [])) (ap (λ (s : State). s .count) (a []))
+
+-- a state whose hold mark is clear
+released-same : (s : State) → s .hold ≡ false → s ≡ released s
 unfolding released withHold
-sw-released t f a = sym (ap (λ (u : State). u .sw) (a []))
+released-same s h = ap (withHold s) h
 
--- the test that lets steps go on
-pub stayed : (held settled : Bool) (before after : ℕ) (r : Bool) → r ≡ (not held && (settled && eqb after before)) → r ≡ true
-    → (held ≡ false) × (settled ≡ true) × (after ≡ before)
-stayed true settled before after r e h = absurd (false≢true (sym e ∙ h))
-stayed false false before after r e h = absurd (false≢true (sym e ∙ h))
-stayed false true before after r e h = (refl, refl, eqb-true after before (sym e ∙ h))
+pub chosen-released : (t f : Core) → ((v : List ℕ) → joined f v ≡ released (joined t v)) → t .hold ≡ false → (regs : List ℕ) → chosen (joined f regs) ≡ chosen (joined t regs)
+chosen-released t f a h regs = ap chosen (a regs ∙ sym (released-same (joined t regs) h))
 
--- the choice of an interrupt, the key and the address state stay over a step from t to d, by the cores f before and m after its instruction
-module _ (t f m d : Core) (a : (v : List ℕ) → joined f v ≡ released (joined t v)) (s : Settled f m) (b : (v : List ℕ) → joined d v ≡ ticked (joined m v))
-    (h : t .hold ≡ false) (p : d .pi ≡ f .pi) where
-  pub chosen-kept : (regs regs' : List ℕ) → chosen (joined d regs') ≡ chosen (joined t regs)
-  unfolding released ticked withHold withPi withTb withTa withCount chosen takeable
-  chosen-kept regs regs' =
-      rw (
-        p ∙ ap (λ (u : State). u .pi) (a []),
-        ap (λ (u : State). u .mk) (b []) ∙ s .mk-kept ∙ ap (λ (u : State). u .mk) (a []),
-        ap (λ (u : State). u .enabled) (b []) ∙ s .enabled-kept ∙ ap (λ (u : State). u .enabled) (a []),
-        ap (λ (u : State). u .hold) (b []) ∙ s .hold-kept ∙ ap (λ (u : State). u .hold) (a []),
-        h,
-      ) refl
+-- over an instruction, from the core c to d
+module _ (c d : Core) (s : Settled c d) where
+  pub chosen-settled : (regs regs' : List ℕ) → chosen (joined d regs') ≡ chosen (joined c regs)
+  unfolding chosen takeable
+  chosen-settled regs regs' = rw (s .pi-kept, s .mk-kept, s .enabled-kept, s .hold-kept) refl
 
-  -- a part of SW, as the key or the address state, that the instruction leaves
-  pub part-kept : (part : ℕ → ℕ) → part (m .sw) ≡ part (f .sw) → part (d .sw) ≡ part (t .sw)
-  unfolding released ticked withHold withPi withTb withTa withCount
-  part-kept part k = ap (λ (u : State). part (u .sw)) (b []) ∙ k ∙ ap (λ (u : State). part (u .sw)) (a [])
+  pub calm-settled : (n : ℕ) → Calm n c → Calm n d
+  calm-settled n = calm-alike n c d (s .ta-kept) (s .tb-kept) (s .taon-kept) (s .tbon-kept) (s .count-kept)
 
 -- ---- n steps
 
@@ -96,6 +94,42 @@ pub steps-step : (isa : Isa) (n : ℕ) (x : Machine) → 0 < n → steps isa n x
 unfolding steps
 steps-step isa zero x h = absurd (omega arith)
 steps-step isa (suc n) x h = rw sub-one refl
+
+-- ---- an instruction, its tick and the steps after it
+
+abbrev pub going : Isa → ℕ → State → List ℕ → List ℕ → List ℕ → Machine
+going isa k s m g o = steps isa k (tick (perform s m g o (instructed isa s g o (view s m g))))
+
+-- n steps begin with an instruction, where no interrupt is chosen; u is the state with the hold mark cleared
+pub going-start : (isa : Isa) (n : ℕ) (x : Machine) (u : State) → u ≡ released (x .state) → 0 < n → 16 ≤ chosen (x .state)
+    → steps isa n x ≡ going isa (n - 1) u (x .memory) (x .pages) (x .ports)
+unfolding step
+going-start isa n x u e h i = steps-step isa n x h ∙ rw (e, ← instructs isa x _ refl i) refl
+
+-- what the instruction did, from the state s
+module _ (isa : Isa) (k : ℕ) (s : State) (m g o : List ℕ) (lag : ℕ) (b : Bool) (c : Core) (regs m' g' o' : List ℕ)
+    (f : Became (perform s m g o (instructed isa s g o (view s m g))) (after b lag (joined c regs)) m' g' o') where
+  ticks : going isa k s m g o ≡ steps isa k (machine (ticked (after b lag (joined c regs))) m' g' o')
+  unfolding tick
+  ticks = ap (λ x. steps isa k (tick x)) (sym (became-machine f))
+
+  -- it is not settled; r is the core after the tick
+  pub going-end : (r : Core) → ((v : List ℕ) → joined r v ≡ ticked (joined c v)) → b ≡ false → going isa k s m g o ≡ steps isa k (machine (joined r regs) m' g' o')
+  going-end r t h = ticks ∙ ap (λ d. steps isa k (machine (ticked (after d lag (joined c regs))) m' g' o')) h ∙ ap (λ u. steps isa k (machine u m' g' o')) (sym (t regs))
+
+  -- it is settled
+  pub going-late : (j : ℕ) → j ≡ lag → b ≡ true → going isa k s m g o ≡ steps isa k (machine (ticked (later j (joined c regs))) m' g' o')
+  going-late j e h = ticks ∙ ap (λ d. steps isa k (machine (ticked (after d lag (joined c regs))) m' g' o')) h ∙ ap (λ i. steps isa k (machine (ticked (later i (joined c regs))) m' g' o')) (sym e)
+
+-- and the next instruction follows at once, with k - 1 steps after it
+pub going-on : (isa : Isa) (k j n : ℕ) (c : Core) (regs m g o : List ℕ) → k ≡ j + 1 → c .hold ≡ false → 16 ≤ chosen (joined c regs) → Calm (n + 1) c
+    → steps isa k (machine (ticked (later n (joined c regs))) m g o) ≡ going isa j (later (n + 1) (joined c regs)) m g o
+unfolding chosen takeable
+going-on isa k j n c regs m g o e h i calm =
+    let next = later (n + 1) (joined c regs) in
+    ap (λ u. steps isa k (machine u m g o)) (ticked-later (joined c regs) n (calm .a-inside) (calm .b-inside) (calm .count-inside))
+    ∙ going-start isa k (machine next m g o) next (released-same next h) (omega arith) i
+    ∙ ap (λ z. going isa z next m g o) (omega arith)
 
 -- ---- the questions
 

@@ -1,5 +1,5 @@
 // One instruction from its accesses on (Scope, "One step", 2 and 3), on a core and the registers lent beside it; key and group are those of
-// its SW. Callers have 512 page registers and 1,024 ports: a run asks for them.
+// its SW. Callers have 512 page registers and 1,024 ports: a run asks for them. The core may lag some calm ticks behind the state.
 ghost use mathlib.Core.Path.{_≡_};
 ghost use mathlib.Core.Bool.{true, false};
 ghost use mathlib.Core.List.{List, [], _∷_};
@@ -17,7 +17,8 @@ ghost use Rattle.isa.specs.Commands.{supervisedBy};
 ghost use Rattle.isa.specs.Mil1750.{classOf, mil1750};
 ghost use Rattle.block.specs.Operation.{isBlock};
 ghost use Rattle.ordinary.specs.Gathers.{FirstThree};
-ghost use Rattle.cpu.specs.Settled.{Settled};
+ghost use Rattle.interrupt.specs.Later.{Calm, later};
+ghost use Rattle.cpu.specs.Settled.{Settled, after};
 ghost use lib.Dec.{eqb};
 use access::accesses::few_reads;
 use access::accesses::few_writes;
@@ -31,6 +32,7 @@ use interrupt::entry::enter;
 use interrupt::fields::advance;
 use interrupt::fields::group_of;
 use interrupt::fields::key_of;
+use interrupt::later::tick_by;
 use interrupt::time::fault;
 use interrupt::vector::call_vector;
 use machine::Class;
@@ -46,23 +48,14 @@ use page::lookup::check_span;
 use prepare::class_of;
 use prepare::prepare;
 
-// The core after an instruction. Where it is settled, no other interrupt is to be chosen than before, by the same key and address state.
+// The core after an instruction. Where it is settled, it lags as before, and no other interrupt is to be chosen than before, by the same key
+// and address state; else it does not lag.
 pub struct Moved {
     pub settled: bool,
     pub core: Core,
 }
 
-// After a user's operation: it is settled where PI is what it was.
-fn weighed(pi: u16, core: Core) -> Moved
-    ensures { λ r. ⌜ (r .core ≡ core) × (r .settled ≡ eqb (core .pi) pi) ⌝ }
-{
-    Moved {
-        settled: core.pi == pi,
-        core,
-    }
-}
-
-// After anything else.
+// After anything but a user's operation that leaves PI.
 fn unsettled(core: Core) -> Moved
     ensures { λ r. ⌜ (r .core ≡ core) × (r .settled ≡ false) ⌝ }
 {
@@ -70,6 +63,29 @@ fn unsettled(core: Core) -> Moved
         settled: false,
         core,
     }
+}
+
+// After a user's operation: it is settled where PI is what it was.
+fn weighed(pi: u16, lag: u32, core: Core) -> Moved
+    requires { ⌜ Calm lag core ⌝ }
+    ensures { λ r. ⌜ (r .settled ≡ eqb (core .pi) pi) × (r .settled ≡ true → r .core ≡ core)
+        × ((regs : List ℕ) → after (r .settled) lag (joined (r .core) regs) ≡ later lag (joined core regs)) ⌝ }
+{
+    if core.pi == pi {
+        return Moved {
+            settled: true,
+            core,
+        };
+    }
+    unsettled(tick_by(core, lag))
+}
+
+// A fault: its FT bit is b, and IC is left at a.
+fn deny(core: Core, lag: u32, b: u16, a: u16) -> Moved
+    requires { ⌜ Calm lag core ⌝ }
+    ensures { λ r. ⌜ (r .settled ≡ false) × ((regs : List ℕ) → joined (r .core) regs ≡ faulted (later lag (joined core regs)) b a) ⌝ }
+{
+    unsettled(fault(tick_by(core, lag), b, a))
 }
 
 // The first refusal: all reads, then all writes.
@@ -97,24 +113,25 @@ fn refuse(core: Core, form: u16, b: u16) -> Core
 // An operation on a block, with any ports: its accesses are checked before it changes anything.
 fn carry_block(
     core: Core,
+    lag: u32,
     regs: &mut [u16; 16],
     memory: &mut [u16],
     pages: &[u16],
     n: Instruction,
 ) -> Moved
-    requires { ⌜ (length (now pages) ≡ 512) × (isBlock (operationOf (n .form)) ≡ true) ⌝ }
-    ensures { λ r. ⌜ ((ports : List ℕ) → Became (perform (joined core (now (regs .entry))) (now (memory .entry)) (now (pages .entry)) ports
-        (spec.carried mil1750 (joined core (now (regs .entry))) (now (pages .entry)) ports
-        (spec.view (joined core (now (regs .entry))) (now (memory .entry)) (now (pages .entry))) (Prepared.Ready n)))
-        (joined (r .core) (now (regs .exit))) (now (memory .exit)) (now (pages .entry)) ports)
+    requires { ⌜ (length (now pages) ≡ 512) × (isBlock (operationOf (n .form)) ≡ true) × Calm lag core ⌝ }
+    ensures { λ r. ⌜ ((ports : List ℕ) → Became (perform (later lag (joined core (now (regs .entry)))) (now (memory .entry)) (now (pages .entry)) ports
+        (spec.carried mil1750 (later lag (joined core (now (regs .entry)))) (now (pages .entry)) ports
+        (spec.view (later lag (joined core (now (regs .entry)))) (now (memory .entry)) (now (pages .entry))) (Prepared.Ready n)))
+        (after (r .settled) lag (joined (r .core) (now (regs .exit)))) (now (memory .exit)) (now (pages .entry)) ports)
         × (r .settled ≡ true → Settled core (r .core)) ⌝ }
 {
     let from = reads(regs, n);
     let to = writes(regs, n);
     let verdict = verify(core.sw, pages, memory.len(), from, to);
     match verdict {
-        Verdict::Clear => weighed(core.pi, block(core, regs, memory, pages, n)),
-        Verdict::Fault(b) => unsettled(refuse(core, n.form, b)),
+        Verdict::Clear => weighed(core.pi, lag, block(core, regs, memory, pages, n)),
+        Verdict::Fault(b) => deny(core, lag, b, advance(core.ic, n.form / 4096)),
     }
 }
 
@@ -170,6 +187,7 @@ fn call(core: Core, memory: &mut [u16], pages: &[u16], k: u16) -> Core
 // An operation on at most three words, which are x, y and z, whose accesses are open, by its class.
 fn operate(
     core: Core,
+    lag: u32,
     regs: &mut [u16; 16],
     memory: &mut [u16],
     pages: &mut [u16],
@@ -182,24 +200,35 @@ fn operate(
 ) -> Moved
     requires { ⌜ (length (now pages) ≡ 512) × (length (now ports) ≡ 1024) × (isBlock (operationOf (n .form)) ≡ false)
         × FirstThree (wordsOf (keyOf (core .sw)) (groupOf (core .sw)) (now pages) (length (now memory)) (readsOf (now regs) n) (now memory)) x y z
-        × (to ≡ writesOf (now regs) n) ⌝ }
-    ensures { λ r. ⌜ (Became (perform (joined core (now (regs .entry))) (now (memory .entry)) (now (pages .entry)) (now (ports .entry))
-        (spec.operated mil1750 (joined core (now (regs .entry))) (now (pages .entry)) (now (ports .entry)) (classOf (operationOf (n .form))) n
+        × (to ≡ writesOf (now regs) n) × Calm lag core ⌝ }
+    ensures { λ r. ⌜ (Became (perform (later lag (joined core (now (regs .entry)))) (now (memory .entry)) (now (pages .entry)) (now (ports .entry))
+        (spec.operated mil1750 (later lag (joined core (now (regs .entry)))) (now (pages .entry)) (now (ports .entry)) (classOf (operationOf (n .form))) n
         (wordsOf (keyOf (core .sw)) (groupOf (core .sw)) (now (pages .entry)) (length (now (memory .entry))) (readsOf (now (regs .entry)) n) (now (memory .entry)))))
-        (joined (r .core) (now (regs .exit))) (now (memory .exit)) (now (pages .exit)) (now (ports .exit)))
+        (after (r .settled) lag (joined (r .core) (now (regs .exit)))) (now (memory .exit)) (now (pages .exit)) (now (ports .exit)))
         × (r .settled ≡ true → Settled core (r .core)) ⌝ }
 {
     let class = class_of(n.form % 256);
     match class {
-        Class::User => weighed(core.pi, work(core, regs, memory, pages, n, x, y, z, to)),
-        Class::Supervisor => unsettled(govern(core, regs, pages, ports, n, x, y, z)),
-        Class::Executive => unsettled(call(core, memory, pages, n.first % 16)),
+        Class::User => weighed(
+            core.pi,
+            lag,
+            work(core, regs, memory, pages, n, x, y, z, to),
+        ),
+        Class::Supervisor => {
+            let late = tick_by(core, lag);
+            unsettled(govern(late, regs, pages, ports, n, x, y, z))
+        }
+        Class::Executive => {
+            let late = tick_by(core, lag);
+            unsettled(call(late, memory, pages, n.first % 16))
+        }
     }
 }
 
 // An operation on at most three words, which have been read: its stores are checked before it changes anything.
 fn proceed(
     core: Core,
+    lag: u32,
     key: u16,
     group: u16,
     regs: &mut [u16; 16],
@@ -212,25 +241,26 @@ fn proceed(
     z: u16,
 ) -> Moved
     requires { ⌜ (length (now pages) ≡ 512) × (length (now ports) ≡ 1024) × (isBlock (operationOf (n .form)) ≡ false)
-        × FirstThree (wordsOf (keyOf (core .sw)) (groupOf (core .sw)) (now pages) (length (now memory)) (readsOf (now regs) n) (now memory)) x y z × (key ≡ keyOf (core .sw)) × (group ≡ groupOf (core .sw)) × (group < 16) ⌝ }
-    ensures { λ r. ⌜ (Became (perform (joined core (now (regs .entry))) (now (memory .entry)) (now (pages .entry)) (now (ports .entry))
-        (spec.accessed mil1750 (joined core (now (regs .entry))) (now (pages .entry)) (now (ports .entry))
-        (spec.view (joined core (now (regs .entry))) (now (memory .entry)) (now (pages .entry))) n
+        × FirstThree (wordsOf (keyOf (core .sw)) (groupOf (core .sw)) (now pages) (length (now memory)) (readsOf (now regs) n) (now memory)) x y z × (key ≡ keyOf (core .sw)) × (group ≡ groupOf (core .sw)) × (group < 16) × Calm lag core ⌝ }
+    ensures { λ r. ⌜ (Became (perform (later lag (joined core (now (regs .entry)))) (now (memory .entry)) (now (pages .entry)) (now (ports .entry))
+        (spec.accessed mil1750 (later lag (joined core (now (regs .entry)))) (now (pages .entry)) (now (ports .entry))
+        (spec.view (later lag (joined core (now (regs .entry)))) (now (memory .entry)) (now (pages .entry))) n
         (checked (keyOf (core .sw)) (groupOf (core .sw)) (now (pages .entry)) (length (now (memory .entry))) (writesOf (now (regs .entry)) n) Access.Write)))
-        (joined (r .core) (now (regs .exit))) (now (memory .exit)) (now (pages .exit)) (now (ports .exit)))
+        (after (r .settled) lag (joined (r .core) (now (regs .exit)))) (now (memory .exit)) (now (pages .exit)) (now (ports .exit)))
         × (r .settled ≡ true → Settled core (r .core)) ⌝ }
 {
     let to = few_writes(regs, n);
     let verdict = check_span(Access::Write, key, group, pages, memory.len(), to);
     match verdict {
-        Verdict::Clear => operate(core, regs, memory, pages, ports, n, x, y, z, to),
-        Verdict::Fault(b) => unsettled(refuse(core, n.form, b)),
+        Verdict::Clear => operate(core, lag, regs, memory, pages, ports, n, x, y, z, to),
+        Verdict::Fault(b) => deny(core, lag, b, advance(core.ic, n.form / 4096)),
     }
 }
 
 // An instruction that is ready: its accesses are checked before it changes anything.
 fn carry(
     core: Core,
+    lag: u32,
     key: u16,
     group: u16,
     regs: &mut [u16; 16],
@@ -239,21 +269,22 @@ fn carry(
     ports: &mut [u16],
     n: Instruction,
 ) -> Moved
-    requires { ⌜ (length (now pages) ≡ 512) × (length (now ports) ≡ 1024) × (key ≡ keyOf (core .sw)) × (group ≡ groupOf (core .sw)) × (group < 16) ⌝ }
-    ensures { λ r. ⌜ (Became (perform (joined core (now (regs .entry))) (now (memory .entry)) (now (pages .entry)) (now (ports .entry))
-        (spec.carried mil1750 (joined core (now (regs .entry))) (now (pages .entry)) (now (ports .entry))
-        (spec.view (joined core (now (regs .entry))) (now (memory .entry)) (now (pages .entry))) (Prepared.Ready n)))
-        (joined (r .core) (now (regs .exit))) (now (memory .exit)) (now (pages .exit)) (now (ports .exit)))
+    requires { ⌜ (length (now pages) ≡ 512) × (length (now ports) ≡ 1024) × (key ≡ keyOf (core .sw)) × (group ≡ groupOf (core .sw)) × (group < 16) × Calm lag core ⌝ }
+    ensures { λ r. ⌜ (Became (perform (later lag (joined core (now (regs .entry)))) (now (memory .entry)) (now (pages .entry)) (now (ports .entry))
+        (spec.carried mil1750 (later lag (joined core (now (regs .entry)))) (now (pages .entry)) (now (ports .entry))
+        (spec.view (later lag (joined core (now (regs .entry)))) (now (memory .entry)) (now (pages .entry))) (Prepared.Ready n)))
+        (after (r .settled) lag (joined (r .core) (now (regs .exit)))) (now (memory .exit)) (now (pages .exit)) (now (ports .exit)))
         × (r .settled ≡ true → Settled core (r .core)) ⌝ }
 {
     if is_block(n.form % 256) {
-        return carry_block(core, regs, memory, pages, n);
+        return carry_block(core, lag, regs, memory, pages, n);
     }
     let from = few_reads(regs, n);
     let gathered = gather(key, group, memory, pages, from.start, from.count);
     if gathered.clear {
         return proceed(
             core,
+            lag,
             key,
             group,
             regs,
@@ -266,12 +297,13 @@ fn carry(
             gathered.z,
         );
     }
-    unsettled(refuse(core, n.form, gathered.fault))
+    deny(core, lag, gathered.fault, advance(core.ic, n.form / 4096))
 }
 
 // The instruction at IC, from a core whose hold mark is clear. The table is the decoder's.
 pub fn instruct(
     core: Core,
+    lag: u32,
     key: u16,
     group: u16,
     regs: &mut [u16; 16],
@@ -280,16 +312,16 @@ pub fn instruct(
     ports: &mut [u16],
     table: &[u16; 256],
 ) -> Moved
-    requires { ⌜ (length (now pages) ≡ 512) × (length (now ports) ≡ 1024) × (now table ≡ forms) × (key ≡ keyOf (core .sw)) × (group ≡ groupOf (core .sw)) × (group < 16) ⌝ }
-    ensures { λ r. ⌜ (Became (perform (joined core (now (regs .entry))) (now (memory .entry)) (now (pages .entry)) (now (ports .entry))
-        (spec.instructed mil1750 (joined core (now (regs .entry))) (now (pages .entry)) (now (ports .entry))
-        (spec.view (joined core (now (regs .entry))) (now (memory .entry)) (now (pages .entry)))))
-        (joined (r .core) (now (regs .exit))) (now (memory .exit)) (now (pages .exit)) (now (ports .exit)))
+    requires { ⌜ (length (now pages) ≡ 512) × (length (now ports) ≡ 1024) × (now table ≡ forms) × (key ≡ keyOf (core .sw)) × (group ≡ groupOf (core .sw)) × (group < 16) × Calm lag core ⌝ }
+    ensures { λ r. ⌜ (Became (perform (later lag (joined core (now (regs .entry)))) (now (memory .entry)) (now (pages .entry)) (now (ports .entry))
+        (spec.instructed mil1750 (later lag (joined core (now (regs .entry)))) (now (pages .entry)) (now (ports .entry))
+        (spec.view (later lag (joined core (now (regs .entry)))) (now (memory .entry)) (now (pages .entry)))))
+        (after (r .settled) lag (joined (r .core) (now (regs .exit)))) (now (memory .exit)) (now (pages .exit)) (now (ports .exit)))
         × (r .settled ≡ true → Settled core (r .core)) ⌝ }
 {
     let prepared = prepare(core, key, group, regs, memory, pages, table);
     match prepared {
-        Prepared::Ready(n) => carry(core, key, group, regs, memory, pages, ports, n),
-        Prepared::Denied(b, a) => unsettled(fault(core, b, a)),
+        Prepared::Ready(n) => carry(core, lag, key, group, regs, memory, pages, ports, n),
+        Prepared::Denied(b, a) => deny(core, lag, b, a),
     }
 }

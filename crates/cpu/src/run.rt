@@ -1,9 +1,8 @@
 // Steps and runs (Scope, "One step", "Questions at the door").
 ghost use mathlib.Core.Path.{_≡_};
-ghost use mathlib.Core.Bool.{not, _&&_};
+ghost use mathlib.Core.Bool.{false, cond};
 ghost use mathlib.Core.List.{List};
 ghost use Prim.Native.Nat.{ℕ, _<_, _≤_};
-ghost use lib.Dec.{eqb};
 ghost use lib.ListN.{length};
 ghost use Rattle.decode.specs.Decode.{forms};
 ghost use Rattle.machine.specs.State.{keyOf, groupOf, joined};
@@ -16,6 +15,8 @@ use crate::act::instruct;
 use interrupt::entry::enter;
 use interrupt::fields::group_of;
 use interrupt::fields::key_of;
+use interrupt::later::quiet;
+use interrupt::later::tick_by;
 use interrupt::pending::choose;
 use interrupt::time::release;
 use interrupt::time::tick;
@@ -35,17 +36,11 @@ fn interrupted(core: Core, memory: &mut [u16], pages: &[u16], n: u16) -> Core
     tick(done)
 }
 
-// Whether the choice of an interrupt is as before a step: the hold mark was not set, the instruction left it, and no timer changed PI.
-fn stays(held: bool, settled: bool, before: u16, after: u16) -> bool
-    ensures { λ r. ⌜ r ≡ (not held && (settled && eqb after before)) ⌝ }
+// How many of n steps after the first may follow it at once: none, where the hold mark was set, since it hid the choice of an interrupt.
+fn spare(held: bool, n: u32) -> u32
+    ensures { λ r. ⌜ (r ≡ cond held 0 n) × (r ≤ n) × (0 < r → held ≡ false) ⌝ }
 {
-    if held {
-        return false;
-    }
-    if settled {
-        return after == before;
-    }
-    false
+    if held { 0 } else { n }
 }
 
 // What is left of some steps after the first of them.
@@ -54,7 +49,8 @@ pub struct Rest {
     pub left: u32,
 }
 
-// Of n steps the first, which runs an instruction, and those after it as long as the choice of an interrupt stays. Key and group are those of SW.
+// Of n steps the first, which runs an instruction, and those after it as long as the choice of an interrupt stays and no timer passes its end:
+// their ticks are made at once. Key and group are those of SW.
 fn go_on(
     core: Core,
     key: u16,
@@ -71,19 +67,25 @@ fn go_on(
     ensures { λ r. ⌜ (r .left < n) × (steps mil1750 n (machine (joined core (now (regs .entry))) (now (memory .entry)) (now (pages .entry)) (now (ports .entry)))
         ≡ steps mil1750 (r .left) (machine (joined (r .core) (now (regs .exit))) (now (memory .exit)) (now (pages .exit)) (now (ports .exit)))) ⌝ }
 {
-    let mut t = core;
-    let mut left = n;
-    while 0 < left {
-        let before = release(t);
-        let moved = instruct(before, key, group, regs, memory, pages, ports, table);
-        let done = tick(moved.core);
-        left -= 1;
-        if !stays(t.hold, moved.settled, before.pi, done.pi) {
-            return Rest { core: done, left };
+    let most = quiet(core, spare(core.hold, n - 1)) + 1;
+    let mut t = release(core);
+    let mut lag: u32 = 0;
+    while lag < most {
+        let moved = instruct(t, lag, key, group, regs, memory, pages, ports, table);
+        lag += 1;
+        t = moved.core;
+        if !moved.settled {
+            return Rest {
+                core: tick(t),
+                left: n - lag,
+            };
         }
-        t = done;
     }
-    Rest { core: t, left }
+    let late = tick_by(t, lag - 1);
+    Rest {
+        core: tick(late),
+        left: n - lag,
+    }
 }
 
 // As many steps as are told.

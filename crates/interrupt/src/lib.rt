@@ -2,6 +2,7 @@
 // The state goes without its registers, as a Core: what is said here holds with any registers beside it.
 pub mod entry;
 pub mod fields;
+pub mod later;
 pub mod pending;
 pub mod time;
 pub mod vector;

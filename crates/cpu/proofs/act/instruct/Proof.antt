@@ -1,7 +1,10 @@
 -- `cpu::act::instruct` meets its contract. Assumes nothing.
 use mathlib.Core.Path.{_≡_, refl, sym, ap, _∙_}
 use mathlib.Core.Bool.{false≢true}
-use Rattle.cpu.proofs.ActLaws.{failed}
+use Rattle.interrupt.specs.Later.{later}
+use Rattle.cpu.proofs.ActLaws.{failed, prepared-later}
+use Rattle.machine.specs.Instructions.{view}
+use Rattle.machine.specs.State.{joined}
 use Rattle.machine.specs.Instructions.{instructed, carried}
 use borrow.Author.Needs.{needs}
 use Rattle.cpu.proofs.act.instruct.Statement.{statement}
@@ -9,8 +12,7 @@ use Rattle.cpu.proofs.act.instruct.Tie as tie
 use Rattle.cpu.proofs.act.instruct.Reads as reads
 use Rattle.cpu.proofs.act.instruct.Lts as lts
 use Rattle.cpu.proofs.act.carry.Reads as carry-reads
-use Rattle.cpu.proofs.act.unsettled.Reads as unsettled-reads
-use Rattle.interrupt.proofs.time.fault.Reads as fault-reads
+use Rattle.cpu.proofs.act.deny.Reads as deny-reads
 use Rattle.prepare.proofs.prepare.Reads as prepare-reads
 
 prepare-requires : tie.Need-prepare-requires
@@ -20,16 +22,13 @@ enum-known-prepared : tie.Need-enum-known-prepared
 enum-known-prepared c = search needs
 
 carry-requires : tie.Need-carry-requires
-carry-requires c κs = (c .before .before .before .before .before .before .before .before .before .before .before .before .before .before .pre .0, c .before .before .before .before .before .before .before .before .before .before .before .before .before .before .pre .1, c .before .before .before .before .before .before .before .before .before .before .before .before .before .before .pre .3, c .before .before .before .before .before .before .before .before .before .before .before .before .before .before .pre .4, c .before .before .before .before .before .before .before .before .before .before .before .before .before .before .pre .5)
+carry-requires c κs = (c .before .before .before .before .before .before .before .before .before .before .before .before .before .before .pre .0, c .before .before .before .before .before .before .before .before .before .before .before .before .before .before .pre .1, c .before .before .before .before .before .before .before .before .before .before .before .before .before .before .pre .3, c .before .before .before .before .before .before .before .before .before .before .before .before .before .before .pre .4, c .before .before .before .before .before .before .before .before .before .before .before .before .before .before .pre .5, c .before .before .before .before .before .before .before .before .before .before .before .before .before .before .pre .6)
 
 enum-known-prepared-2 : tie.Need-enum-known-prepared-2
 enum-known-prepared-2 c = search needs
 
-fault-requires : tie.Need-fault-requires
-fault-requires c κs = search needs
-
-unsettled-requires : tie.Need-unsettled-requires
-unsettled-requires c κs = search needs
+deny-requires : tie.Need-deny-requires
+deny-requires c κs = c .before .before .before .before .before .before .before .before .before .before .pre .6
 
 same-length : tie.Need-same-length
 same-length c = search needs
@@ -42,7 +41,7 @@ same-length-3 c = search needs
 
 returns : tie.Need-returns
 unfolding instructed carried
-returns c = (rw (← c .before .before .before .before .before .before .before .before .before .before .before .before .before .before .prepare .ensures, c .before .before .before .before .before .before .before .before .before .before .before .before .prepared .given .1) (c .before .before .before .before .before .before .carry .ensures .0), c .before .before .before .before .before .before .carry .ensures .1)
+returns c = (rw (prepared-later (c .before .before .before .before .before .before .before .before .before .before .before .before .before .before .before .before .before .before .before .before .before .args .lag) (joined (c .before .before .before .before .before .before .before .before .before .before .before .before .before .before .before .before .before .before .before .before .before .args .core) (c .before .before .before .before .before .before .before .before .before .before .before .before .before .before .before .before .before .before .before .before .before .args .regs .now)) (view (joined (c .before .before .before .before .before .before .before .before .before .before .before .before .before .before .before .before .before .before .before .before .before .args .core) (c .before .before .before .before .before .before .before .before .before .before .before .before .before .before .before .before .before .before .before .before .before .args .regs .now)) (c .before .before .before .before .before .before .before .before .before .before .before .before .before .before .before .before .before .before .before .before .before .args .memory .now) (c .before .before .before .before .before .before .before .before .before .before .before .before .before .before .before .before .before .before .before .before .before .args .pages .now)), ← c .before .before .before .before .before .before .before .before .before .before .before .before .before .before .prepare .ensures, c .before .before .before .before .before .before .before .before .before .before .before .before .prepared .given .1) (c .before .before .before .before .before .before .carry .ensures .0), c .before .before .before .before .before .before .carry .ensures .1)
 
 same-length-4 : tie.Need-same-length-4
 same-length-4 c = search needs
@@ -52,7 +51,7 @@ same-length-5 c = search needs
 
 returns-2 : tie.Need-returns-2
 unfolding instructed carried
-returns-2 c = (rw (c .unsettled .ensures .0, ← c .before .before .before .before .before .prepare .ensures, c .before .before .before .prepared2 .given .1) (failed (c .before .before .before .before .before .before .before .before .before .before .before .before .args .core) _ (c .before .before .before .before .before .before .before .before .before .before .before .before .args .regs .now) (c .before .before .before .before .before .before .before .before .before .before .before .before .args .memory .now) (c .before .before .before .before .before .before .before .before .before .before .before .before .args .pages .now) (c .before .before .before .before .before .before .before .before .before .before .before .before .args .ports .now) _ _ (c .before .fault .ensures)), λ h. absurd (false≢true (sym (c .unsettled .ensures .1) ∙ h)))
+returns-2 c = (rw (c .deny .ensures .0, prepared-later (c .before .before .before .before .before .before .before .before .before .before .before .args .lag) (joined (c .before .before .before .before .before .before .before .before .before .before .before .args .core) (c .before .before .before .before .before .before .before .before .before .before .before .args .regs .now)) (view (joined (c .before .before .before .before .before .before .before .before .before .before .before .args .core) (c .before .before .before .before .before .before .before .before .before .before .before .args .regs .now)) (c .before .before .before .before .before .before .before .before .before .before .before .args .memory .now) (c .before .before .before .before .before .before .before .before .before .before .before .args .pages .now)), ← c .before .before .before .before .prepare .ensures, c .before .before .prepared2 .given .1) (failed (later (c .before .before .before .before .before .before .before .before .before .before .before .args .lag) (joined (c .before .before .before .before .before .before .before .before .before .before .before .args .core) (c .before .before .before .before .before .before .before .before .before .before .before .args .regs .now))) _ (c .before .before .before .before .before .before .before .before .before .before .before .args .memory .now) (c .before .before .before .before .before .before .before .before .before .before .before .args .pages .now) (c .before .before .before .before .before .before .before .before .before .before .before .args .ports .now) _ _ (c .deny .ensures .1 (c .before .before .before .before .before .before .before .before .before .before .before .args .regs .now))), λ h. absurd (false≢true (sym (c .deny .ensures .0) ∙ h)))
 
 pub instruct-spec : {M : Type 1} → statement M
 instruct-spec =
@@ -62,8 +61,7 @@ instruct-spec =
     enum-known-prepared
     carry-requires
     enum-known-prepared-2
-    fault-requires
-    unsettled-requires
+    deny-requires
     same-length
     same-length-2
     same-length-3

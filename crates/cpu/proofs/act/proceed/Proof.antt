@@ -1,6 +1,7 @@
 -- `cpu::act::proceed` meets its contract. Assumes nothing.
 use mathlib.Core.Path.{_≡_, refl, sym, ap, _∙_}
 use mathlib.Core.Bool.{false≢true}
+use Rattle.interrupt.specs.Later.{later}
 use Rattle.cpu.proofs.ActLaws.{no-block, accessed-clear, accessed-fault, failed}
 use Rattle.machine.specs.State.{joined}
 use borrow.Author.Needs.{needs}
@@ -9,9 +10,9 @@ use Rattle.cpu.proofs.act.proceed.Tie as tie
 use Rattle.cpu.proofs.act.proceed.Reads as reads
 use Rattle.cpu.proofs.act.proceed.Lts as lts
 use Rattle.access.proofs.accesses.few_writes.Reads as few-writes-reads
+use Rattle.cpu.proofs.act.deny.Reads as deny-reads
 use Rattle.cpu.proofs.act.operate.Reads as operate-reads
-use Rattle.cpu.proofs.act.refuse.Reads as refuse-reads
-use Rattle.cpu.proofs.act.unsettled.Reads as unsettled-reads
+use Rattle.interrupt.proofs.fields.advance.Reads as advance-reads
 use Rattle.page.proofs.lookup.check_span.Reads as check-span-reads
 
 few-writes-requires : tie.Need-few-writes-requires
@@ -24,16 +25,16 @@ enum-told : tie.Need-enum-told
 enum-told c = search needs
 
 operate-requires : tie.Need-operate-requires
-operate-requires c κs = (c .before .before .before .before .before .before .before .before .before .before .before .before .before .pre .0, c .before .before .before .before .before .before .before .before .before .before .before .before .before .pre .1, c .before .before .before .before .before .before .before .before .before .before .before .before .before .pre .2, c .before .before .before .before .before .before .before .before .before .before .before .before .before .pre .3, c .before .before .before .before .before .before .before .before .few-writes .ensures .2 (no-block _ (c .before .before .before .before .before .before .before .before .before .before .before .before .before .pre .2) .2) (no-block _ (c .before .before .before .before .before .before .before .before .before .before .before .before .before .pre .2) .3) (no-block _ (c .before .before .before .before .before .before .before .before .before .before .before .before .before .pre .2) .4))
+operate-requires c κs = (c .before .before .before .before .before .before .before .before .before .before .before .before .before .pre .0, c .before .before .before .before .before .before .before .before .before .before .before .before .before .pre .1, c .before .before .before .before .before .before .before .before .before .before .before .before .before .pre .2, c .before .before .before .before .before .before .before .before .before .before .before .before .before .pre .3, c .before .before .before .before .before .before .before .before .few-writes .ensures .2 (no-block _ (c .before .before .before .before .before .before .before .before .before .before .before .before .before .pre .2) .2) (no-block _ (c .before .before .before .before .before .before .before .before .before .before .before .before .before .pre .2) .3) (no-block _ (c .before .before .before .before .before .before .before .before .before .before .before .before .before .pre .2) .4), c .before .before .before .before .before .before .before .before .before .before .before .before .before .pre .7)
 
 enum-known-verdict : tie.Need-enum-known-verdict
 enum-known-verdict c = search needs
 
-refuse-requires : tie.Need-refuse-requires
-refuse-requires c κs = search needs
+advance-requires : tie.Need-advance-requires
+advance-requires c κs = search needs
 
-unsettled-requires : tie.Need-unsettled-requires
-unsettled-requires c κs = search needs
+deny-requires : tie.Need-deny-requires
+deny-requires c κs = c .before .before .before .before .before .before .before .before .before .before .before .before .pre .7
 
 same-length : tie.Need-same-length
 same-length c = search needs
@@ -45,13 +46,13 @@ same-length-3 : tie.Need-same-length-3
 same-length-3 c = search needs
 
 returns : tie.Need-returns
-returns c = (rw (← accessed-clear (joined (c .before .before .before .before .before .before .before .before .before .before .before .before .before .before .before .before .before .before .before .before .args .core) (c .before .before .before .before .before .before .before .before .before .before .before .before .before .before .before .before .before .before .before .before .args .regs .now)) (c .before .before .before .before .before .before .before .before .before .before .before .before .before .before .before .before .before .before .before .before .args .memory .now) (c .before .before .before .before .before .before .before .before .before .before .before .before .before .before .before .before .before .before .before .before .args .pages .now) (c .before .before .before .before .before .before .before .before .before .before .before .before .before .before .before .before .before .before .before .before .args .ports .now) (c .before .before .before .before .before .before .before .before .before .before .before .before .before .before .before .before .before .before .before .before .args .n) _ _ _ _ (c .before .before .before .before .before .before .before .before .before .before .before .before .before .before .before .before .before .before .before .before .pre .4) (c .before .before .before .before .before .before .before .before .before .before .before .before .before .before .before .before .before .before .before .before .pre .5) (c .before .before .before .before .before .before .before .before .before .before .before .before .before .before .before .few-writes .ensures .2 (no-block _ (c .before .before .before .before .before .before .before .before .before .before .before .before .before .before .before .before .before .before .before .before .pre .2) .2) (no-block _ (c .before .before .before .before .before .before .before .before .before .before .before .before .before .before .before .before .before .before .before .before .pre .2) .3) (no-block _ (c .before .before .before .before .before .before .before .before .before .before .before .before .before .before .before .before .before .before .before .before .pre .2) .4)) (c .before .before .before .before .before .before .before .before .before .before .before .before .before .check-span .ensures) (c .before .before .before .before .before .before .before .before .before .before .before .enum-told .given .1)) (c .before .before .before .before .before .before .operate .ensures .0), c .before .before .before .before .before .before .operate .ensures .1)
+returns c = (rw (← accessed-clear (later (c .before .before .before .before .before .before .before .before .before .before .before .before .before .before .before .before .before .before .before .before .args .lag) (joined (c .before .before .before .before .before .before .before .before .before .before .before .before .before .before .before .before .before .before .before .before .args .core) (c .before .before .before .before .before .before .before .before .before .before .before .before .before .before .before .before .before .before .before .before .args .regs .now))) (c .before .before .before .before .before .before .before .before .before .before .before .before .before .before .before .before .before .before .before .before .args .memory .now) (c .before .before .before .before .before .before .before .before .before .before .before .before .before .before .before .before .before .before .before .before .args .pages .now) (c .before .before .before .before .before .before .before .before .before .before .before .before .before .before .before .before .before .before .before .before .args .ports .now) (c .before .before .before .before .before .before .before .before .before .before .before .before .before .before .before .before .before .before .before .before .args .n) _ _ _ _ (c .before .before .before .before .before .before .before .before .before .before .before .before .before .before .before .before .before .before .before .before .pre .4) (c .before .before .before .before .before .before .before .before .before .before .before .before .before .before .before .before .before .before .before .before .pre .5) (c .before .before .before .before .before .before .before .before .before .before .before .before .before .before .before .few-writes .ensures .2 (no-block _ (c .before .before .before .before .before .before .before .before .before .before .before .before .before .before .before .before .before .before .before .before .pre .2) .2) (no-block _ (c .before .before .before .before .before .before .before .before .before .before .before .before .before .before .before .before .before .before .before .before .pre .2) .3) (no-block _ (c .before .before .before .before .before .before .before .before .before .before .before .before .before .before .before .before .before .before .before .before .pre .2) .4)) (c .before .before .before .before .before .before .before .before .before .before .before .before .before .check-span .ensures) (c .before .before .before .before .before .before .before .before .before .before .before .enum-told .given .1)) (c .before .before .before .before .before .before .operate .ensures .0), c .before .before .before .before .before .before .operate .ensures .1)
 
 same-length-4 : tie.Need-same-length-4
 same-length-4 c = search needs
 
 returns-2 : tie.Need-returns-2
-returns-2 c = (rw (c .unsettled .ensures .0, ← accessed-fault (joined (c .before .before .before .before .before .before .before .before .before .before .before .before .args .core) (c .before .before .before .before .before .before .before .before .before .before .before .before .args .regs .now)) (c .before .before .before .before .before .before .before .before .before .before .before .before .args .memory .now) (c .before .before .before .before .before .before .before .before .before .before .before .before .args .pages .now) (c .before .before .before .before .before .before .before .before .before .before .before .before .args .ports .now) (c .before .before .before .before .before .before .before .before .before .before .before .before .args .n) _ _ _ _ (c .before .before .before .before .before .before .before .before .before .before .before .before .pre .4) (c .before .before .before .before .before .before .before .before .before .before .before .before .pre .5) (c .before .before .before .before .before .before .before .few-writes .ensures .2 (no-block _ (c .before .before .before .before .before .before .before .before .before .before .before .before .pre .2) .2) (no-block _ (c .before .before .before .before .before .before .before .before .before .before .before .before .pre .2) .3) (no-block _ (c .before .before .before .before .before .before .before .before .before .before .before .before .pre .2) .4)) (c .before .before .before .before .before .check-span .ensures) _ (c .before .before .before .verdict .given .1)) (failed (c .before .before .before .before .before .before .before .before .before .before .before .before .args .core) _ (c .before .before .before .before .before .before .before .before .before .before .before .before .args .regs .now) (c .before .before .before .before .before .before .before .before .before .before .before .before .args .memory .now) (c .before .before .before .before .before .before .before .before .before .before .before .before .args .pages .now) (c .before .before .before .before .before .before .before .before .before .before .before .before .args .ports .now) _ _ (c .before .refuse .ensures)), λ h. absurd (false≢true (sym (c .unsettled .ensures .1) ∙ h)))
+returns-2 c = (rw (c .deny .ensures .0, ← accessed-fault (later (c .before .before .before .before .before .before .before .before .before .before .before .before .before .args .lag) (joined (c .before .before .before .before .before .before .before .before .before .before .before .before .before .args .core) (c .before .before .before .before .before .before .before .before .before .before .before .before .before .args .regs .now))) (c .before .before .before .before .before .before .before .before .before .before .before .before .before .args .memory .now) (c .before .before .before .before .before .before .before .before .before .before .before .before .before .args .pages .now) (c .before .before .before .before .before .before .before .before .before .before .before .before .before .args .ports .now) (c .before .before .before .before .before .before .before .before .before .before .before .before .before .args .n) _ _ _ _ (c .before .before .before .before .before .before .before .before .before .before .before .before .before .pre .4) (c .before .before .before .before .before .before .before .before .before .before .before .before .before .pre .5) (c .before .before .before .before .before .before .before .before .few-writes .ensures .2 (no-block _ (c .before .before .before .before .before .before .before .before .before .before .before .before .before .pre .2) .2) (no-block _ (c .before .before .before .before .before .before .before .before .before .before .before .before .before .pre .2) .3) (no-block _ (c .before .before .before .before .before .before .before .before .before .before .before .before .before .pre .2) .4)) (c .before .before .before .before .before .before .check-span .ensures) _ (c .before .before .before .before .verdict .given .1), ← c .before .advance .ensures) (failed (later (c .before .before .before .before .before .before .before .before .before .before .before .before .before .args .lag) (joined (c .before .before .before .before .before .before .before .before .before .before .before .before .before .args .core) (c .before .before .before .before .before .before .before .before .before .before .before .before .before .args .regs .now))) _ (c .before .before .before .before .before .before .before .before .before .before .before .before .before .args .memory .now) (c .before .before .before .before .before .before .before .before .before .before .before .before .before .args .pages .now) (c .before .before .before .before .before .before .before .before .before .before .before .before .before .args .ports .now) _ _ (c .deny .ensures .1 (c .before .before .before .before .before .before .before .before .before .before .before .before .before .args .regs .now))), λ h. absurd (false≢true (sym (c .deny .ensures .0) ∙ h)))
 
 pub proceed-spec : {M : Type 1} → statement M
 proceed-spec =
@@ -62,8 +63,8 @@ proceed-spec =
     enum-told
     operate-requires
     enum-known-verdict
-    refuse-requires
-    unsettled-requires
+    advance-requires
+    deny-requires
     same-length
     same-length-2
     same-length-3

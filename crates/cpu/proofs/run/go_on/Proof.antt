@@ -3,78 +3,106 @@ use mathlib.Core.Path.{_≡_, refl, sym, ap, _∙_}
 use native.Mathlib.Omega.{arith}
 use borrow.Author.Tests.{eq-eqb, ne-eqb, le-leb, lt-leb, not-true, not-false}
 use lib.ListN.{length}
-use Prim.Native.Nat.{_≤_}
+use Prim.Native.Nat.{_+_, _≤_, _<_, _-_}
 use Rattle.machine.specs.State.{keyOf, groupOf, joined}
 use Rattle.machine.specs.Machine.{machine}
 use Rattle.machine.specs.Runs.{steps}
 use Rattle.isa.specs.Mil1750.{mil1750}
+use mathlib.Core.Bool.{false}
 use Rattle.machine.specs.Entries.{chosen}
-use Rattle.machine.specs.Step.{perform, released}
-use Rattle.cpu.proofs.StepLaws.{steps-step, instruction-step, sw-released, stayed, chosen-kept, part-kept}
-use Rattle.machine.proofs.MachineLaws.{became-machine}
+use Rattle.machine.specs.Step.{ticked}
+use Rattle.interrupt.specs.Later.{Calm, later}
+use Rattle.interrupt.proofs.LaterLaws.{calm-fewer, later-none}
+use Rattle.cpu.proofs.StepLaws.{going, going-start, going-end, going-late, going-on, sw-released, hold-released, chosen-released, calm-released, chosen-settled, calm-settled}
 use borrow.Author.Needs.{needs}
 use Rattle.cpu.proofs.run.go_on.Statement.{statement}
 use Rattle.cpu.proofs.run.go_on.Tie as tie
 use Rattle.cpu.proofs.run.go_on.Reads as reads
 use Rattle.cpu.proofs.run.go_on.Lts as lts
 use Rattle.cpu.proofs.act.instruct.Reads as instruct-reads
-use Rattle.cpu.proofs.run.stays.Reads as stays-reads
+use Rattle.cpu.proofs.run.spare.Reads as spare-reads
+use Rattle.interrupt.proofs.later.quiet.Reads as quiet-reads
+use Rattle.interrupt.proofs.later.tick_by.Reads as tick-by-reads
 use Rattle.interrupt.proofs.time.release.Reads as release-reads
 use Rattle.interrupt.proofs.time.tick.Reads as tick-reads
 
 abbrev Inv-loop : tie.InvT-loop
-Inv-loop key group regs₀ memory₀ pages₀ ports₀ table n t₀ left₀ regs memory pages ports t left = (length memory ≡ length memory₀) × (length pages ≡ length pages₀) × (length ports ≡ length ports₀) × (left ≤ left₀) × (key ≡ keyOf (t .sw)) × (group ≡ groupOf (t .sw)) × (16 ≤ chosen (joined t regs)) × (steps mil1750 left₀ (machine (joined t₀ regs₀) memory₀ pages₀ ports₀) ≡ steps mil1750 left (machine (joined t regs) memory pages ports))
+Inv-loop key group regs₀ memory₀ pages₀ ports₀ table n most t₀ lag₀ regs memory pages ports t lag = (length memory ≡ length memory₀) × (length pages ≡ length pages₀) × (length ports ≡ length ports₀) × (lag ≤ most) × (0 < most) × (most ≤ n) × (key ≡ keyOf (t .sw)) × (group ≡ groupOf (t .sw)) × (t .hold ≡ false) × Calm (most - 1) t × (1 < most → 16 ≤ chosen (joined t regs)) × (lag < most → going mil1750 (n - 1) (joined t₀ regs₀) memory₀ pages₀ ports₀ ≡ going mil1750 (n - (lag + 1)) (later lag (joined t regs)) memory pages ports) × (0 < lag → going mil1750 (n - 1) (joined t₀ regs₀) memory₀ pages₀ ports₀ ≡ steps mil1750 (n - lag) (machine (ticked (later (lag - 1) (joined t regs))) memory pages ports))
 
 abbrev μ-loop : tie.MeasureT-loop
-μ-loop key group regs₀ memory₀ pages₀ ports₀ table n t₀ left₀ regs memory pages ports t left = left
+μ-loop key group regs₀ memory₀ pages₀ ports₀ table n most t₀ lag₀ regs memory pages ports t lag = most - lag
 
-loop-holds : tie.Need-loop-holds Inv-loop μ-loop
-loop-holds c = (refl, refl, refl, omega arith, c .before .before .before .pre .3, c .before .before .before .pre .4, c .before .before .before .pre .7, refl)
+sub-spare : tie.Need-sub-spare Inv-loop μ-loop
+sub-spare c = omega (arith, c .before .before .before .pre .6)
+
+spare-requires : tie.Need-spare-requires Inv-loop μ-loop
+spare-requires c κs = omega arith
+
+quiet-requires : tie.Need-quiet-requires Inv-loop μ-loop
+quiet-requires c κs = omega arith
+
+add-most : tie.Need-add-most Inv-loop μ-loop
+add-most c = omega (arith, c .quiet .ensures .1, c .before .spare .ensures .1)
 
 release-requires : tie.Need-release-requires Inv-loop μ-loop
 release-requires c κs = omega arith
 
+loop-holds : tie.Need-loop-holds Inv-loop μ-loop
+loop-holds c = (refl, refl, refl, omega arith, omega arith, omega (arith, c .before .quiet .ensures .1, c .before .before .spare .ensures .1, c .before .before .before .before .before .before .pre .6), c .before .before .before .before .before .before .pre .3 ∙ ap keyOf (sw-released _ _ (c .release .ensures)), c .before .before .before .before .before .before .pre .4 ∙ ap groupOf (sw-released _ _ (c .release .ensures)), hold-released _ _ (c .release .ensures), calm-fewer _ _ _ (omega arith) (calm-released _ _ (c .release .ensures) _ (c .before .quiet .ensures .2)), λ h. rw (chosen-released _ _ (c .release .ensures) (c .before .before .spare .ensures .2 (omega (arith, h, c .before .quiet .ensures .1))) (c .before .before .before .before .before .before .args .regs .now)) (c .before .before .before .before .before .before .pre .7), λ h. sym (ap (λ s. going mil1750 (c .before .before .before .before .before .before .args .n - 1) s (c .before .before .before .before .before .before .args .memory .now) (c .before .before .before .before .before .before .args .pages .now) (c .before .before .before .before .before .before .args .ports .now)) (later-none (joined (c .release .result) (c .before .before .before .before .before .before .args .regs .now)))), λ h. absurd (omega arith))
+
 instruct-requires : tie.Need-instruct-requires Inv-loop μ-loop
-instruct-requires c κs = (omega arith, omega arith, c .before .before .before .before .before .before .before .before .before .before .pre .2, c .before .before .before .before .before .before .loop .inv .4 ∙ ap keyOf (sw-released _ _ (c .before .before .before .before .release .ensures)), c .before .before .before .before .before .before .loop .inv .5 ∙ ap groupOf (sw-released _ _ (c .before .before .before .before .release .ensures)), c .before .before .before .before .before .before .before .before .before .before .pre .5)
+instruct-requires c κs = (omega arith, omega arith, c .before .before .before .before .before .before .before .before .before .before .before .before .pre .2, c .before .before .before .before .before .loop .inv .6, c .before .before .before .before .before .loop .inv .7, c .before .before .before .before .before .before .before .before .before .before .before .before .pre .5, calm-fewer _ _ _ (omega (arith, c .before .before .before .before .loop-test .taken)) (c .before .before .before .before .before .loop .inv .9))
+
+add-lag : tie.Need-add-lag Inv-loop μ-loop
+add-lag c = omega (arith, c .before .before .before .before .before .before .before .before .before .before .before .loop-test .taken, c .before .before .before .before .before .before .before .before .before .before .before .before .loop .inv .5, c .before .before .before .before .before .before .before .before .before .before .before .before .before .before .before .before .before .before .before .fits .n .fits)
 
 tick-requires : tie.Need-tick-requires Inv-loop μ-loop
 tick-requires c κs = omega arith
 
-sub-left : tie.Need-sub-left Inv-loop μ-loop
-sub-left c = omega arith
-
-stays-requires : tie.Need-stays-requires Inv-loop μ-loop
-stays-requires c κs = omega arith
+sub-t27 : tie.Need-sub-t27 Inv-loop μ-loop
+sub-t27 c = omega arith
 
 same-length : tie.Need-same-length Inv-loop μ-loop
-same-length c = let l = c .before .before .before .before .before .before .before .before .before .before .before .before .before .before .before .before .loop in c .before .before .before .before .before .before .before .before .before .instruct .kept .1 .1 .1 .1 .0 ∙ l .inv .0
+same-length c = let l = c .before .before .before .before .before .before .before .before .before .before .before .before .before .before .before .before .loop in c .before .before .before .before .before .before .before .before .before .before .instruct .kept .1 .1 .1 .1 .1 .0 ∙ l .inv .0
 
 same-length-2 : tie.Need-same-length-2 Inv-loop μ-loop
-same-length-2 c = let l = c .before .before .before .before .before .before .before .before .before .before .before .before .before .before .before .before .loop in c .before .before .before .before .before .before .before .before .before .instruct .kept .1 .1 .1 .1 .1 .0 ∙ l .inv .1
+same-length-2 c = let l = c .before .before .before .before .before .before .before .before .before .before .before .before .before .before .before .before .loop in c .before .before .before .before .before .before .before .before .before .before .instruct .kept .1 .1 .1 .1 .1 .1 .0 ∙ l .inv .1
 
 same-length-3 : tie.Need-same-length-3 Inv-loop μ-loop
-same-length-3 c = let l = c .before .before .before .before .before .before .before .before .before .before .before .before .before .before .before .before .loop in c .before .before .before .before .before .before .before .before .before .instruct .kept .1 .1 .1 .1 .1 .1 .0 ∙ l .inv .2
+same-length-3 c = let l = c .before .before .before .before .before .before .before .before .before .before .before .before .before .before .before .before .loop in c .before .before .before .before .before .before .before .before .before .before .instruct .kept .1 .1 .1 .1 .1 .1 .1 .0 ∙ l .inv .2
 
 returns : tie.Need-returns Inv-loop μ-loop
-returns c = let l = c .before .before .before .before .before .before .before .before .before .before .before .before .before .before .before .before .loop in (omega arith, rw (l .inv .7, steps-step mil1750 (l .left) (machine (joined (l .t) (l .regs)) (l .memory) (l .pages) (l .ports)) (c .before .before .before .before .before .before .before .before .before .before .before .before .before .before .before .loop-test .taken), ← became-machine (instruction-step mil1750 (machine (joined (l .t) (l .regs)) (l .memory) (l .pages) (l .ports)) _ refl _ _ _ _ _ _ (c .before .before .tick .ensures) _ (c .before .before .before .before .before .before .before .before .before .before .before .before .before .before .release .ensures (l .regs)) (l .inv .6) (c .before .before .before .before .before .before .before .before .before .instruct .ensures .0))) refl)
+returns c = let l = c .before .before .before .before .before .before .before .before .before .before .before .before .before .before .before .before .loop in (omega arith, going-start mil1750 (c .before .before .before .before .before .before .before .before .before .before .before .before .before .before .before .before .before .before .before .before .before .before .before .args .n) (machine (joined (c .before .before .before .before .before .before .before .before .before .before .before .before .before .before .before .before .before .before .before .before .before .before .before .args .core) (c .before .before .before .before .before .before .before .before .before .before .before .before .before .before .before .before .before .before .before .before .before .before .before .args .regs .now)) (c .before .before .before .before .before .before .before .before .before .before .before .before .before .before .before .before .before .before .before .before .before .before .before .args .memory .now) (c .before .before .before .before .before .before .before .before .before .before .before .before .before .before .before .before .before .before .before .before .before .before .before .args .pages .now) (c .before .before .before .before .before .before .before .before .before .before .before .before .before .before .before .before .before .before .before .before .before .before .before .args .ports .now)) _ (c .before .before .before .before .before .before .before .before .before .before .before .before .before .before .before .before .before .release .ensures (c .before .before .before .before .before .before .before .before .before .before .before .before .before .before .before .before .before .before .before .before .before .before .before .args .regs .now)) (c .before .before .before .before .before .before .before .before .before .before .before .before .before .before .before .before .before .before .before .before .before .before .before .pre .6) (c .before .before .before .before .before .before .before .before .before .before .before .before .before .before .before .before .before .before .before .before .before .before .before .pre .7) ∙ l .inv .11 (c .before .before .before .before .before .before .before .before .before .before .before .before .before .before .before .loop-test .taken) ∙ going-end mil1750 (c .before .before .before .before .before .before .before .before .before .before .before .before .before .before .before .before .before .before .before .before .before .before .before .args .n - (l .lag + 1)) (later (l .lag) (joined (l .t) (l .regs))) (l .memory) (l .pages) (l .ports) (l .lag) (c .before .before .before .before .before .before .before .before .before .before .instruct .result .settled) (c .before .before .before .before .before .before .before .before .before .before .instruct .result .core) _ _ _ _ (c .before .before .before .before .before .before .before .before .before .before .instruct .ensures .0) _ (c .tick .ensures) (not-true (c .before .before .before .before .before .before .before .before .before .before .instruct .result .settled) (c .before .if1 .taken)))
 
 loop-less : tie.Need-loop-less Inv-loop μ-loop
 loop-less c = omega arith
 
 loop-again : tie.Need-loop-again Inv-loop μ-loop
-loop-again c = let l = c .before .before .before .before .before .before .before .before .before .before .before .before .before .before .before .before .loop in let y = stayed _ _ _ _ _ (c .before .stays .ensures) (not-false (c .before .stays .result) (c .if1 .left)) in (c .before .before .before .before .before .before .before .before .before .instruct .kept .1 .1 .1 .1 .0 ∙ l .inv .0, c .before .before .before .before .before .before .before .before .before .instruct .kept .1 .1 .1 .1 .1 .0 ∙ l .inv .1, c .before .before .before .before .before .before .before .before .before .instruct .kept .1 .1 .1 .1 .1 .1 .0 ∙ l .inv .2, omega arith, l .inv .4 ∙ sym (part-kept _ _ _ _ (c .before .before .before .before .before .before .before .before .before .before .before .before .before .before .release .ensures) (c .before .before .before .before .before .before .before .before .before .instruct .ensures .1 (y .1)) (c .before .before .tick .ensures) (y .0) (y .2) keyOf ((c .before .before .before .before .before .before .before .before .before .instruct .ensures .1 (y .1)) .key-kept)), l .inv .5 ∙ sym (part-kept _ _ _ _ (c .before .before .before .before .before .before .before .before .before .before .before .before .before .before .release .ensures) (c .before .before .before .before .before .before .before .before .before .instruct .ensures .1 (y .1)) (c .before .before .tick .ensures) (y .0) (y .2) groupOf ((c .before .before .before .before .before .before .before .before .before .instruct .ensures .1 (y .1)) .group-kept)), rw (chosen-kept _ _ _ _ (c .before .before .before .before .before .before .before .before .before .before .before .before .before .before .release .ensures) (c .before .before .before .before .before .before .before .before .before .instruct .ensures .1 (y .1)) (c .before .before .tick .ensures) (y .0) (y .2) (l .regs) _) (l .inv .6), rw (l .inv .7, steps-step mil1750 (l .left) (machine (joined (l .t) (l .regs)) (l .memory) (l .pages) (l .ports)) (c .before .before .before .before .before .before .before .before .before .before .before .before .before .before .before .loop-test .taken), ← became-machine (instruction-step mil1750 (machine (joined (l .t) (l .regs)) (l .memory) (l .pages) (l .ports)) _ refl _ _ _ _ _ _ (c .before .before .tick .ensures) _ (c .before .before .before .before .before .before .before .before .before .before .before .before .before .before .release .ensures (l .regs)) (l .inv .6) (c .before .before .before .before .before .before .before .before .before .instruct .ensures .0))) refl)
+loop-again c = let l = c .before .before .before .before .before .before .before .before .before .before .before .before .before .before .before .loop in let y = not-false (c .before .before .before .before .before .before .before .before .before .instruct .result .settled) (c .if1 .left) in let s = c .before .before .before .before .before .before .before .before .before .instruct .ensures .1 y in (c .before .before .before .before .before .before .before .before .before .instruct .kept .1 .1 .1 .1 .1 .0 ∙ l .inv .0, c .before .before .before .before .before .before .before .before .before .instruct .kept .1 .1 .1 .1 .1 .1 .0 ∙ l .inv .1, c .before .before .before .before .before .before .before .before .before .instruct .kept .1 .1 .1 .1 .1 .1 .1 .0 ∙ l .inv .2, omega arith, l .inv .4, l .inv .5, l .inv .6 ∙ sym (s .key-kept), l .inv .7 ∙ sym (s .group-kept), s .hold-kept ∙ l .inv .8, calm-settled _ _ s _ (l .inv .9), λ h. rw (chosen-settled _ _ s (l .regs) _) (l .inv .10 h), λ h. l .inv .11 (c .before .before .before .before .before .before .before .before .before .before .before .before .before .before .loop-test .taken) ∙ going-late mil1750 (c .before .before .before .before .before .before .before .before .before .before .before .before .before .before .before .before .before .before .before .before .before .before .args .n - (l .lag + 1)) (later (l .lag) (joined (l .t) (l .regs))) (l .memory) (l .pages) (l .ports) (l .lag) (c .before .before .before .before .before .before .before .before .before .instruct .result .settled) (c .before .before .before .before .before .before .before .before .before .instruct .result .core) _ _ _ _ (c .before .before .before .before .before .before .before .before .before .instruct .ensures .0) (l .lag) refl y ∙ going-on mil1750 _ (c .before .before .before .before .before .before .before .before .before .before .before .before .before .before .before .before .before .before .before .before .before .before .args .n - (l .lag + 1 + 1)) _ _ _ _ _ _ (omega (arith, h, l .inv .5)) (s .hold-kept ∙ l .inv .8) (rw (chosen-settled _ _ s (l .regs) _) (l .inv .10 (omega (arith, h)))) (calm-fewer _ _ _ (omega (arith, h)) (calm-settled _ _ s _ (l .inv .9))), λ h. l .inv .11 (c .before .before .before .before .before .before .before .before .before .before .before .before .before .before .loop-test .taken) ∙ going-late mil1750 (c .before .before .before .before .before .before .before .before .before .before .before .before .before .before .before .before .before .before .before .before .before .before .args .n - (l .lag + 1)) (later (l .lag) (joined (l .t) (l .regs))) (l .memory) (l .pages) (l .ports) (l .lag) (c .before .before .before .before .before .before .before .before .before .instruct .result .settled) (c .before .before .before .before .before .before .before .before .before .instruct .result .core) _ _ _ _ (c .before .before .before .before .before .before .before .before .before .instruct .ensures .0) (l .lag + 1 - 1) (omega arith) y)
+
+sub-tick-by : tie.Need-sub-tick-by Inv-loop μ-loop
+sub-tick-by c = omega arith
+
+tick-by-requires : tie.Need-tick-by-requires Inv-loop μ-loop
+tick-by-requires c κs = calm-fewer _ _ _ (omega arith) (c .before .loop .inv .9)
+
+tick-requires-2 : tie.Need-tick-requires-2 Inv-loop μ-loop
+tick-requires-2 c κs = omega arith
+
+sub-t16 : tie.Need-sub-t16 Inv-loop μ-loop
+sub-t16 c = omega arith
 
 same-length-4 : tie.Need-same-length-4 Inv-loop μ-loop
-same-length-4 c = c .before .loop .inv .0
+same-length-4 c = c .before .before .before .loop .inv .0
 
 same-length-5 : tie.Need-same-length-5 Inv-loop μ-loop
-same-length-5 c = c .before .loop .inv .1
+same-length-5 c = c .before .before .before .loop .inv .1
 
 same-length-6 : tie.Need-same-length-6 Inv-loop μ-loop
-same-length-6 c = c .before .loop .inv .2
+same-length-6 c = c .before .before .before .loop .inv .2
 
 returns-2 : tie.Need-returns-2 Inv-loop μ-loop
-returns-2 c = (omega arith, c .before .loop .inv .7)
+returns-2 c = let l = c .before .before .before .loop in (omega arith, going-start mil1750 (c .before .before .before .before .before .before .before .before .before .before .args .n) (machine (joined (c .before .before .before .before .before .before .before .before .before .before .args .core) (c .before .before .before .before .before .before .before .before .before .before .args .regs .now)) (c .before .before .before .before .before .before .before .before .before .before .args .memory .now) (c .before .before .before .before .before .before .before .before .before .before .args .pages .now) (c .before .before .before .before .before .before .before .before .before .before .args .ports .now)) _ (c .before .before .before .before .release .ensures (c .before .before .before .before .before .before .before .before .before .before .args .regs .now)) (c .before .before .before .before .before .before .before .before .before .before .pre .6) (c .before .before .before .before .before .before .before .before .before .before .pre .7) ∙ l .inv .12 (omega arith) ∙ sym (ap (λ s. steps mil1750 (c .before .before .before .before .before .before .before .before .before .before .args .n - l .lag) (machine s (l .memory) (l .pages) (l .ports))) (c .tick2 .ensures (l .regs) ∙ ap ticked (c .before .tick-by .ensures (l .regs)))))
 
 pub go-on-spec : {M : Type 1} → statement M
 go-on-spec =
@@ -82,18 +110,26 @@ go-on-spec =
     (tie.spec
     Inv-loop
     μ-loop
-    loop-holds
+    sub-spare
+    spare-requires
+    quiet-requires
+    add-most
     release-requires
+    loop-holds
     instruct-requires
+    add-lag
     tick-requires
-    sub-left
-    stays-requires
+    sub-t27
     same-length
     same-length-2
     same-length-3
     returns
     loop-less
     loop-again
+    sub-tick-by
+    tick-by-requires
+    tick-requires-2
+    sub-t16
     same-length-4
     same-length-5
     same-length-6
