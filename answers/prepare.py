@@ -1,6 +1,7 @@
 # The answers from which the proofs of the crate `prepare` are written.
 EQUATIONS = 'mathlib.Core.Path.{_≡_, refl, sym, ap, _∙_}'
 TESTS = 'borrow.Author.Tests.{eq-eqb, ne-eqb}'
+BOUNDS = 'borrow.Author.Tests.{lt-ltb, le-ltb}'
 OMEGA = 'native.Mathlib.Omega.{arith}'
 SPANS = 'Rattle.page.specs.Spans.'
 STATE = 'Rattle.machine.specs.State.'
@@ -8,6 +9,8 @@ STAGES = 'Rattle.machine.specs.Instructions.'
 ISA = 'Rattle.isa.specs.Mil1750.'
 FORMS = 'Rattle.decode.specs.Forms.'
 LAWS = 'Rattle.prepare.proofs.PrepareLaws.{granted-second}'
+NEXT = 'Rattle.prepare.proofs.PrepareLaws.{lookup-next}'
+INSIDE = 'Rattle.page.proofs.ReachLaws.{located-inside}'
 
 
 # a function and the definitions, each `place names ..`, that its returns unfold
@@ -23,6 +26,10 @@ def by(*unfolded, use=(), **answers):
 KEYED, BACK = '← @Start .pre .1, ← @Start .pre .2', ', @Start .pre .1, @Start .pre .2'
 SECOND = 'granted-second _ _ _ _ _ _, ' + KEYED + ', ← @second-word .ensures, @%s .given .1'
 ADMITTED = 'ne-eqb _ _ (@if1 .left), ' + KEYED + ', ← @class-of .ensures, ← @permit .ensures'
+# the second word follows the first in its page; the first is inside the memory
+FOLLOWING = 'eq-eqb _ _ (@if1 .taken), lookup-next _ _ _ _ _ (@args .ic) (omega arith) _ (@Start .pre .2)'
+NEXT_BOUND = '(@args .at + 1) (length (@args .memory .now)) (omega arith)'
+FIRST = 'located-inside _ _ _ _ _ _ _ _ (@look-up .ensures) (@first .given .1)'
 
 A = {
     'class_of': by(ISA + ' classOf', FORMS + ' privilegedOperations', use=[TESTS, OMEGA], arms='@arm',
@@ -36,14 +43,19 @@ A = {
     'derive': by(STAGES + ' derived', ISA + ' mil1750', use=[TESTS],
         returns='rw (eq-eqb _ _ (@if1 .taken), ← @derive .ensures, ' + KEYED + ', ← @read-word .ensures) (@redirect .ensures (@args .regs .now))',
         returns_2='rw (ne-eqb _ _ (@if1 .left), ← @derive .ensures) (@ready .ensures)'),
-    'second_word': by(use=[TESTS],
-        returns='rw (eq-eqb _ _ (@if1 .taken), ← @advance .ensures) (@read-word .ensures)', returns_2='rw (ne-eqb _ _ (@if1 .left))'),
+    'second_word': by(SPANS + ' gotAt', use=['Prim.Native.Nat.{_+_}', 'lib.ListN.{length}', TESTS, BOUNDS, OMEGA, INSIDE, NEXT],
+        returns='rw (eq-eqb _ _ (@if1 .taken), ← @advance .ensures) (@read-word .ensures)',
+        add_next='omega (arith, located-inside _ _ _ _ _ _ _ _ (sym (@Start .pre .2)) refl)',
+        returns_2='rw (%s, lt-ltb %s) refl' % (FOLLOWING, NEXT_BOUND), returns_3='rw (%s, le-ltb %s) refl' % (FOLLOWING, NEXT_BOUND),
+        returns_4='rw (ne-eqb _ _ (@if1 .left))'),
     'extend': by(STAGES + ' extended', STATE + ' advanced', use=[LAWS],
         returns='rw (%s) (@derive .ensures)' % (SECOND % 'second' + BACK), returns_2='rw (%s, ← @advance .ensures) refl' % (SECOND % 'second2')),
     'admit': by(STAGES + ' decoded granted', STATE + ' advanced', ISA + ' mil1750', use=[TESTS],
         returns='rw (eq-eqb _ _ (@if1 .taken), ← @advance .ensures) refl',
         returns_2='rw (%s) (@extend .ensures)' % (ADMITTED + ', @if2 .taken' + BACK), returns_3='rw (%s, @if2 .left, ← @advance2 .ensures) refl' % ADMITTED),
-    'prepare': by(STAGES + ' prepared fetched', STATE + ' advanced', ISA + ' mil1750',
-        returns='rw (' + KEYED + ', ← @read-word .ensures, @first .given .1, ← @decode-with .ensures' + BACK + ') (@admit .ensures)',
-        returns_2='rw (' + KEYED + ', ← @read-word .ensures, @first2 .given .1, ← @advance .ensures) refl'),
+    'prepare': by(STAGES + ' prepared fetched', STATE + ' advanced', ISA + ' mil1750', SPANS + ' gotAt', use=[OMEGA, INSIDE],
+        mul_w='omega (arith, %s)' % FIRST, shared_slice_read_w=FIRST,
+        admit_requires='search (needs, sym (@look-up .ensures) ∙ @first .given .1)',
+        returns='rw (' + KEYED + ', ← @look-up .ensures, @first .given .1, ← @decode-with .ensures' + BACK + ') (@admit .ensures)',
+        returns_2='rw (' + KEYED + ', ← @look-up .ensures, @first2 .given .1, ← @advance .ensures) refl'),
 }

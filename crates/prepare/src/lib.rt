@@ -21,6 +21,8 @@ use machine::Instruction;
 use machine::Prepared;
 use page::Access;
 use page::Got;
+use page::Place;
+use page::lookup::look_up;
 use page::read::read_word;
 
 // Who may run an operation: BEX (5.30) calls the executive, XIO (5.1) and LST (5.35) are privileged.
@@ -97,16 +99,31 @@ fn derive(
     ready(form, w, x, a)
 }
 
-// The second word, and 0 where there is none.
-fn second_word(ic: u16, key: u16, group: u16, memory: &[u16], pages: &[u16], form: u16) -> Got
-    requires { ⌜ (length (now pages) ≡ 512) × (group < 16) ⌝ }
+// The second word, and 0 where there is none. In one page it follows the first, whose physical address is at; only where the first ends
+// its page is a register looked up again.
+fn second_word(
+    ic: u16,
+    at: usize,
+    key: u16,
+    group: u16,
+    memory: &[u16],
+    pages: &[u16],
+    form: u16,
+) -> Got
+    requires { ⌜ (length (now pages) ≡ 512) × (group < 16) × (lookup Access.Fetch key group (now pages) (length (now memory)) ic ≡ Place.At at) ⌝ }
     ensures { λ r. ⌜ r ≡ cond (eqb (lengthOf form) 2)
         (gotAt (now (memory .entry)) (lookup Access.Fetch key group (now (pages .entry)) (length (now (memory .entry))) (wrapped (ic + 1))))
         (Got.Word 0) ⌝ }
 {
     if form / 4096 == 2 {
-        let at = advance(ic, 1);
-        return read_word(Access::Fetch, key, group, memory, pages, at);
+        if ic % 4096 == 4095 {
+            return read_word(Access::Fetch, key, group, memory, pages, advance(ic, 1));
+        }
+        let next = at + 1;
+        if next < memory.len() {
+            return Got::Word(memory[next]);
+        }
+        return Got::Missed(0x0080);
     }
     Got::Word(0)
 }
@@ -121,12 +138,14 @@ fn extend(
     pages: &[u16],
     form: u16,
     w: u16,
+    at: usize,
 ) -> Prepared
-    requires { ⌜ (length (now pages) ≡ 512) × (key ≡ keyOf (core .sw)) × (group ≡ groupOf (core .sw)) × (group < 16) ⌝ }
+    requires { ⌜ (length (now pages) ≡ 512) × (key ≡ keyOf (core .sw)) × (group ≡ groupOf (core .sw)) × (group < 16)
+        × (lookup Access.Fetch key group (now pages) (length (now memory)) (core .ic) ≡ Place.At at) ⌝ }
     ensures { λ r. ⌜ r ≡ granted mil1750 (joined core (now (regs .entry)))
         (view (joined core (now (regs .entry))) (now (memory .entry)) (now (pages .entry))) form w true (eqb (lengthOf form) 2) ⌝ }
 {
-    let second = second_word(core.ic, key, group, memory, pages, form);
+    let second = second_word(core.ic, at, key, group, memory, pages, form);
     match second {
         Got::Word(x) => derive(core, key, group, regs, memory, pages, form, w, x),
         Got::Missed(b) => Prepared::Denied(b, advance(core.ic, 2)),
@@ -143,8 +162,10 @@ fn admit(
     pages: &[u16],
     form: u16,
     w: u16,
+    at: usize,
 ) -> Prepared
-    requires { ⌜ (length (now pages) ≡ 512) × (key ≡ keyOf (core .sw)) × (group ≡ groupOf (core .sw)) × (group < 16) ⌝ }
+    requires { ⌜ (length (now pages) ≡ 512) × (key ≡ keyOf (core .sw)) × (group ≡ groupOf (core .sw)) × (group < 16)
+        × (lookup Access.Fetch key group (now pages) (length (now memory)) (core .ic) ≡ Place.At at) ⌝ }
     ensures { λ r. ⌜ r ≡ decoded mil1750 (joined core (now (regs .entry)))
         (view (joined core (now (regs .entry))) (now (memory .entry)) (now (pages .entry))) form w (eqb form 0) ⌝ }
 {
@@ -153,7 +174,7 @@ fn admit(
     }
     let class = class_of(form % 256);
     if permit(class, key) {
-        return extend(core, key, group, regs, memory, pages, form, w);
+        return extend(core, key, group, regs, memory, pages, form, w, at);
     }
     Prepared::Denied(0x0020, advance(core.ic, 1))
 }
@@ -172,12 +193,13 @@ pub fn prepare(
     ensures { λ r. ⌜ r ≡ prepared mil1750 (joined core (now (regs .entry)))
         (view (joined core (now (regs .entry))) (now (memory .entry)) (now (pages .entry))) ⌝ }
 {
-    let first = read_word(Access::Fetch, key, group, memory, pages, core.ic);
+    let first = look_up(Access::Fetch, key, group, pages, memory.len(), core.ic);
     match first {
-        Got::Word(w) => {
+        Place::At(at) => {
+            let w = memory[at];
             let form = decode::decode_with(table, w);
-            admit(core, key, group, regs, memory, pages, form, w)
+            admit(core, key, group, regs, memory, pages, form, w, at)
         }
-        Got::Missed(b) => Prepared::Denied(b, advance(core.ic, 1)),
+        Place::Refused(b) => Prepared::Denied(b, advance(core.ic, 1)),
     }
 }
