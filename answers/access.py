@@ -6,6 +6,8 @@ OMEGA = 'native.Mathlib.Omega.{arith}'
 NAT = 'Prim.Native.Nat.{_+_, _-_, _*_, _/_, _%_}'
 OTHERWISE = 'Rattle.choice.proofs.SelectLaws.{otherwise}'
 USE = [EQUATIONS]
+OWN = 'Rattle.access.specs.Needs.'
+NEEDED = 'Rattle.access.proofs.NeedsLaws.'
 SPECS = {'Fields': 'Rattle.isa.specs.Fields', 'Addressing': 'Rattle.isa.specs.Addressing', 'Accesses': 'Rattle.isa.specs.Accesses',
          'Spans': 'Rattle.page.specs.Spans'}
 # contracts that give the result's bound after its value
@@ -45,6 +47,23 @@ def few(definition, words, keys, register):
               returns=register % part('@span-from .ensures', 'eq-eqb _ _ (@if1 .taken), ← @field-a .ensures .0, ← @get .ensures' + ('' if words == 'read' else ', ← e'), 'search needs'),
               returns_2=part('@span-from2 .ensures', memory + '.taken, ← @words-%s .ensures .0' % words, '@words-%s .ensures .1' % words),
               returns_3=part('@span-from3 .ensures', memory + '.left', 'search needs'))
+
+
+# where the words start that an operation reads or writes, and how many they are, by its need
+def start(done, register, call):
+    law = '%s-%s (@args .regs .now) (@args .n) (@args .need) (@Start .pre) p (@if1 .%s)'
+    return {'use': [NEEDED + '{register-%s, operand-%s}' % (done, done)],
+            'returns': 'λ p. rw (%s, ← @field-a .ensures .0%s) (%s .ensures)' % (law % ('register', done, 'taken'), register, call),
+            'returns-2': 'λ p. rw (%s) refl' % (law % ('operand', done, 'left'))}
+
+
+def count(done):
+    law = '%s-%s regs (@args .n) (@args .need) (@Start .pre) p (%s)'
+    operand = law % ('operand', done, 'λ q. omega (arith, q, @if1 .taken)')
+    return {'use': [OMEGA, NEEDED + '{register-%s, operand-%s}' % (done, done)],
+            'returns': '(λ regs p. rw (%s, ← @in-memory .ensures, @if2 .taken) refl, omega arith)' % operand,
+            'returns-2': '(λ regs p. rw (%s, ← @in-memory .ensures, @if2 .left) refl, omega arith)' % operand,
+            'returns-3': '(λ regs p. rw (%s) refl, omega arith)' % (law % ('register', done, 'omega (arith, @if1 .left)'))}
 
 
 FLOATS = '60 61 68 69 74 75 79 80 94 95'
@@ -104,4 +123,11 @@ A = {
         returns_3='(@arm, @moved-span .ensures .1)', returns_4=FEW % (('few-reads',) * 2)),
     'accesses/writes': by('Accesses:writesOf', TESTS, OMEGA, NAT, returns='(@arm, @moved-span .ensures .1)', returns_2='(@arm, @all-from .ensures .1)',
         returns_3='(@arm, @pushed-span .ensures .1)', returns_4=FEW % (('few-writes',) * 2)),
+    'needs/table': {'use': [OWN + '{exceptions, needOf, allNeeds}', SPECS['Accesses'] + '.{wordsMoved, wordsOfInteger, wordsOfFloat, wordsRead, wordsWritten}'],
+        'unf': {'*': 'allNeeds needOf exceptions wordsRead wordsMoved wordsOfFloat wordsOfInteger wordsWritten'}, 'returns': 'refl'},
+    'needs/need_with': {'use': [NEEDED + '{need-listed}'], 'returns': 'need-listed (@args .table .now) (@args .form) (@Start .pre)'},
+    'needs/read_start': start('read', '', '@get'),
+    'needs/read_count': count('read'),
+    'needs/write_start': start('written', ', ← @get .ensures', '@less'),
+    'needs/write_count': count('written'),
 }

@@ -1,0 +1,2 @@
+-- The laws of what an operation needs.
+pub mod NeedsLaws

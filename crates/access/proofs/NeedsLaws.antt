@@ -1,0 +1,147 @@
+-- The parts of what an operation needs, and the words that an operation not on blocks reads and writes by them. Assumes nothing.
+use Prim.Native.Nat.{ℕ, _+_, _/_, _%_, _<_}
+use mathlib.Core.Path.{_≡_, refl, sym, ap, _∙_}
+use mathlib.Core.Bool.{Bool, true, false, cond, _&&_}
+use mathlib.Core.List.{List, [], _∷_}
+use native.Mathlib.Omega.{arith}
+use lib.Dec.{eqb}
+use lib.ListN.{getD}
+use borrow.Author.Tests.{eqb-true, eqb-false}
+use Rattle.choice.proofs.TestLaws.{both, passes}
+use Rattle.choice.proofs.TableLaws.{listed}
+use Rattle.page.specs.declared.Span.{Span}
+use Rattle.page.specs.Spans.{wrapped}
+use Rattle.decode.specs.Forms.{modeOf, operationOf, privilegedOperations}
+use Rattle.machine.specs.declared.Instruction.{Instruction}
+use Rattle.machine.specs.declared.Class.{Class}
+use Rattle.machine.specs.declared.Class.the-variants.{User, Supervisor, Executive}
+use Rattle.machine.specs.Machine.{spanFrom}
+use Rattle.isa.specs.Fields.{fieldA, register}
+use Rattle.isa.specs.Addressing.{inMemory}
+use Rattle.isa.specs.Accesses.{wordsMoved, wordsOfInteger, wordsOfFloat, wordsRead, wordsWritten, atOperand, readsOf, writesOf}
+use Rattle.isa.specs.Mil1750.{classOf}
+use Rattle.access.specs.Needs.{exceptions, needOf, allNeeds}
+
+-- the entry of a list that is the table
+pub need-listed : (table : List ℕ) (form : ℕ) → table ≡ allNeeds → getD table (operationOf form) 0 ≡ needOf (operationOf form)
+unfolding allNeeds
+need-listed table form e = listed needOf 256 (operationOf form) table e (omega arith)
+
+-- the counts, and the two words at a register, computed at every operation
+abbrev parted : ℕ → Bool
+parted k =
+    (eqb (needOf k % 4) (wordsRead k) && eqb (needOf k / 4 % 4) (wordsWritten k))
+    && (eqb (needOf k / 16 % 2) (cond (eqb k 37) 1 0) && eqb (needOf k / 32 % 2) (cond (eqb k 36) 1 0))
+
+all-parted : (k : ℕ) → k < 256 → parted k ≡ true
+unfolding needOf exceptions wordsRead wordsMoved wordsOfFloat wordsOfInteger wordsWritten
+all-parted k h = passes parted 256 refl k h
+
+parts : (k : ℕ) → k < 256
+    → (needOf k % 4 ≡ wordsRead k) × (needOf k / 4 % 4 ≡ wordsWritten k) × (needOf k / 16 % 2 ≡ cond (eqb k 37) 1 0) × (needOf k / 32 % 2 ≡ cond (eqb k 36) 1 0)
+parts k h =
+    let p = both _ _ (all-parted k h) in
+    let q = both _ _ (p .0) in
+    let r = both _ _ (p .1) in
+    (eqb-true _ _ (q .0), eqb-true _ _ (q .1), eqb-true _ _ (r .0), eqb-true _ _ (r .1))
+
+-- a number that is 1 or 0 by a test tells the test
+told : (b : Bool) (m : ℕ) → m ≡ cond b 1 0 → m ≡ 1 → b ≡ true
+told true m e h = refl
+told false m e h = absurd (omega arith)
+
+untold : (b : Bool) (m : ℕ) → m ≡ cond b 1 0 → (m ≡ 1 → ⊥) → b ≡ false
+untold true m e h = absurd (h e)
+untold false m e h = refl
+
+-- an operation without the weight of blocks is not j, which has it
+apart : (k j : ℕ) → needOf k / 64 % 2 ≡ 0 → needOf j / 64 % 2 ≡ 1 → eqb k j ≡ false
+apart k j h i = by (eqb k j) refl
+  where
+    by : (b : Bool) → eqb k j ≡ b → eqb k j ≡ false
+    by true e = let d : needOf k ≡ needOf j = ap needOf (eqb-true k j e) in absurd (omega (arith, d, h, i))
+    by false e = e
+
+others : (k : ℕ) → needOf k / 64 % 2 ≡ 0
+    → (eqb k 40 ≡ false) × (eqb k 44 ≡ false) × (eqb k 47 ≡ false) × (eqb k 50 ≡ false) × (eqb k 54 ≡ false)
+unfolding needOf exceptions wordsRead wordsMoved wordsOfFloat wordsOfInteger wordsWritten
+others k h = (apart k 40 h refl, apart k 44 h refl, apart k 47 h refl, apart k 50 h refl, apart k 54 h refl)
+
+-- a span upwards, by its start and its count
+spanned : (s : Span) (a k start count : ℕ) → s ≡ spanFrom a k → start ≡ s .start → count ≡ s .count → spanFrom start count ≡ s
+spanned s a k start count e i j = rw (i, j, e) refl
+
+-- the operation of n is not on blocks
+module _ (regs : List ℕ) (n : Instruction) (need : ℕ) (e : need ≡ needOf (operationOf (n .form))) (plain : need / 64 % 2 ≡ 0) where
+  no-block : (eqb (operationOf (n .form)) 40 ≡ false) × (eqb (operationOf (n .form)) 44 ≡ false) × (eqb (operationOf (n .form)) 47 ≡ false)
+      × (eqb (operationOf (n .form)) 50 ≡ false) × (eqb (operationOf (n .form)) 54 ≡ false)
+  no-block = others (operationOf (n .form)) (rw (← e) plain)
+
+  -- one word read at a register
+  pub register-read : need / 16 % 2 ≡ 1 → readsOf regs n ≡ spanFrom (register regs (fieldA (n .first))) 1
+  unfolding readsOf
+  register-read h =
+      let p = parts (operationOf (n .form)) (omega arith) in
+      rw (told (eqb (operationOf (n .form)) 37) (need / 16 % 2) (ap (λ (m : ℕ). m / 16 % 2) e ∙ p .2) h) refl
+
+  -- the words read at the derived address
+  pub operand-read : (need / 16 % 2 ≡ 1 → ⊥) → readsOf regs n ≡ spanFrom (n .address) (cond (inMemory (modeOf (n .form))) (need % 4) 0)
+  unfolding readsOf atOperand
+  operand-read h =
+      let p = parts (operationOf (n .form)) (omega arith) in
+      rw (untold (eqb (operationOf (n .form)) 37) (need / 16 % 2) (ap (λ (m : ℕ). m / 16 % 2) e ∙ p .2) h, no-block .0, no-block .1, no-block .2, ← p .0, ← e) refl
+
+  -- one word written below a register
+  pub register-written : need / 32 % 2 ≡ 1 → writesOf regs n ≡ spanFrom (wrapped (register regs (fieldA (n .first)) + 65535)) 1
+  unfolding writesOf
+  register-written h =
+      let p = parts (operationOf (n .form)) (omega arith) in
+      rw (told (eqb (operationOf (n .form)) 36) (need / 32 % 2) (ap (λ (m : ℕ). m / 32 % 2) e ∙ p .3) h) refl
+
+  -- the words written at the derived address
+  pub operand-written : (need / 32 % 2 ≡ 1 → ⊥) → writesOf regs n ≡ spanFrom (n .address) (cond (inMemory (modeOf (n .form))) (need / 4 % 4) 0)
+  unfolding writesOf atOperand
+  operand-written h =
+      let p = parts (operationOf (n .form)) (omega arith) in
+      rw (untold (eqb (operationOf (n .form)) 36) (need / 32 % 2) (ap (λ (m : ℕ). m / 32 % 2) e ∙ p .3) h, no-block .2, no-block .3, no-block .4, ← p .1, ← e) refl
+
+  -- by their start and their count
+  pub reads-span : (start count : ℕ) → start ≡ readsOf regs n .start → count ≡ readsOf regs n .count → spanFrom start count ≡ readsOf regs n
+  reads-span start count i j = by (eqb (need / 16 % 2) 1) refl
+    where
+      by : (b : Bool) → eqb (need / 16 % 2) 1 ≡ b → spanFrom start count ≡ readsOf regs n
+      by true t = spanned _ _ _ start count (register-read (eqb-true _ _ t)) i j
+      by false t = spanned _ _ _ start count (operand-read (eqb-false _ _ t)) i j
+
+  pub writes-span : (start count : ℕ) → start ≡ writesOf regs n .start → count ≡ writesOf regs n .count → spanFrom start count ≡ writesOf regs n
+  writes-span start count i j = by (eqb (need / 32 % 2) 1) refl
+    where
+      by : (b : Bool) → eqb (need / 32 % 2) 1 ≡ b → spanFrom start count ≡ writesOf regs n
+      by true t = spanned _ _ _ start count (register-written (eqb-true _ _ t)) i j
+      by false t = spanned _ _ _ start count (operand-written (eqb-false _ _ t)) i j
+
+-- 1 for who is not a user
+abbrev privilege : Class → ℕ
+privilege User = 0
+privilege Supervisor = 1
+privilege Executive = 1
+
+user-only : (c : Class) → privilege c ≡ 0 → c ≡ User
+user-only User h = refl
+user-only Supervisor h = absurd (omega arith)
+user-only Executive h = absurd (omega arith)
+
+class-told : (k : ℕ) → k < 256 → needOf k / 128 % 2 ≡ privilege (classOf k)
+unfolding needOf exceptions wordsRead wordsMoved wordsOfFloat wordsOfInteger wordsWritten classOf privilegedOperations
+class-told k h = eqb-true _ _ (passes (λ (j : ℕ). eqb (needOf j / 128 % 2) (privilege (classOf j))) 256 refl k h)
+
+-- the operations without the weight of those that are not a user's
+module _ (form need : ℕ) (e : need ≡ needOf (operationOf form)) where
+  told-class : need / 128 % 2 ≡ privilege (classOf (operationOf form))
+  told-class = ap (λ (m : ℕ). m / 128 % 2) e ∙ class-told (operationOf form) (omega arith)
+
+  pub user's : need / 128 % 2 ≡ 0 → classOf (operationOf form) ≡ User
+  user's h = user-only _ (sym told-class ∙ h)
+
+  pub not-user's : (need / 128 % 2 ≡ 0 → ⊥) → classOf (operationOf form) ≡ User → ⊥
+  not-user's h c = h (told-class ∙ ap privilege c)
