@@ -49,7 +49,6 @@ def then(call, *names):
 
 
 A = {
-    'is_block': by(OPERATION + ' isBlock', use=[LISTS, OTHERWISE], arms='@arm', returns_7='sym (%s)' % (REST % '(@args .operation)')),
     'registers/load_all': by(use=[OMEGA, NAT, LENGTHS, FIELDS + '{withRegisters}', LAWS + '{loaded-none, loaded-step}'],
         Inv_loop='(i + left ≤ 16) × (withRegisters regs₀ 0 (take left₀ buf) ≡ withRegisters regs i (take left (drop i buf)))', mu_loop='left',
         add_left='omega (arith, @field-a .ensures .1)', loop_holds='(omega (arith, @field-a .ensures .1), refl)',
@@ -101,8 +100,8 @@ A = {
     'operation/rearrange': by(EXECUTE + ' executed', use=[LISTS, TRUTH, OTHERWISE, NAT, BLOCKS + '{storedAll}', MIL1750 + '{contextOf}', OPERATION + '{isBlock}'], arms='@arm',
         returns_3='rw (@match .keys3) (@move-word .ensures _)', returns_4='rw (@match .keys4) (@proceed .ensures _ _ _)', returns_7=never('@Start .pre .0')),
     'block': by(STATE + ' keyOf groupOf', STEP + ' stored', MIL1750 + ' contextOf', use=['lib.ListN.{length}', STATE + '{joined}', 'Rattle.page.proofs.SpanLaws.{words-read}', 'Rattle.page.proofs.EachLaws.{words-length}'],
-        read_span_requires='(@Start .pre .0, search needs, @reads .ensures .1)', store_words_requires='(@Start .pre .0, search needs, @Start .pre .1)', rearrange_requires='(@Start .pre .1, ap length (words-read _ _ _ _ _ _ _ _ refl (@read-span .ensures)) ∙ words-length _ _ _ _ _ _)',
-        returns='let w = words-read _ _ _ _ _ _ _ _ refl (@read-span .ensures) in record { state-is = rw (← @reads .ensures .0, ← w) (@rearrange .ensures); memory-is = rw (← @reads .ensures .0, ← w) (@store-words .ensures (contextOf (joined (@args .core) (@args .regs .now))) refl) }'),
+        read_span_requires='(@Start .pre .0, search needs, @Start .pre .3)', store_words_requires='(@Start .pre .0, search needs, @Start .pre .1)', rearrange_requires='(@Start .pre .1, ap length (words-read _ _ _ _ _ _ _ _ refl (@read-span .ensures)) ∙ words-length _ _ _ _ _ _)',
+        returns='let w = words-read _ _ _ _ _ _ _ _ refl (@read-span .ensures) in record { state-is = rw (← @Start .pre .2, ← w) (@rearrange .ensures); memory-is = rw (← @Start .pre .2, ← w) (@store-words .ensures (contextOf (joined (@args .core) (@args .regs .now))) refl) }'),
 }
 A['stores/store_words']['unf'].update({'returns' + need: 'writesOf wordsWritten' for need in ('', '-2', '-6')})
 A['stores/store_words']['unf'].update({'returns-4': 'writesOf executed storedAll rearranged', 'returns-5': 'writesOf executed pushedAll rearranged', 'returns-7': 'isBlock'})

@@ -11,15 +11,12 @@ use Rattle.choice.proofs.TestLaws.{both, passes}
 use Rattle.choice.proofs.TableLaws.{listed}
 use Rattle.page.specs.declared.Span.{Span}
 use Rattle.page.specs.Spans.{wrapped}
-use Rattle.decode.specs.Forms.{modeOf, operationOf, privilegedOperations}
+use Rattle.decode.specs.Forms.{modeOf, operationOf}
 use Rattle.machine.specs.declared.Instruction.{Instruction}
-use Rattle.machine.specs.declared.Class.{Class}
-use Rattle.machine.specs.declared.Class.the-variants.{User, Supervisor, Executive}
 use Rattle.machine.specs.Machine.{spanFrom}
 use Rattle.isa.specs.Fields.{fieldA, register}
 use Rattle.isa.specs.Addressing.{inMemory}
 use Rattle.isa.specs.Accesses.{wordsMoved, wordsOfInteger, wordsOfFloat, wordsRead, wordsWritten, atOperand, readsOf, writesOf}
-use Rattle.isa.specs.Mil1750.{classOf}
 use Rattle.access.specs.Needs.{exceptions, needOf, allNeeds}
 
 -- the entry of a list that is the table
@@ -119,29 +116,3 @@ module _ (regs : List ℕ) (n : Instruction) (need : ℕ) (e : need ≡ needOf (
       by : (b : Bool) → eqb (need / 32 % 2) 1 ≡ b → spanFrom start count ≡ writesOf regs n
       by true t = spanned _ _ _ start count (register-written (eqb-true _ _ t)) i j
       by false t = spanned _ _ _ start count (operand-written (eqb-false _ _ t)) i j
-
--- 1 for who is not a user
-abbrev privilege : Class → ℕ
-privilege User = 0
-privilege Supervisor = 1
-privilege Executive = 1
-
-user-only : (c : Class) → privilege c ≡ 0 → c ≡ User
-user-only User h = refl
-user-only Supervisor h = absurd (omega arith)
-user-only Executive h = absurd (omega arith)
-
-class-told : (k : ℕ) → k < 256 → needOf k / 128 % 2 ≡ privilege (classOf k)
-unfolding needOf exceptions wordsRead wordsMoved wordsOfFloat wordsOfInteger wordsWritten classOf privilegedOperations
-class-told k h = eqb-true _ _ (passes (λ (j : ℕ). eqb (needOf j / 128 % 2) (privilege (classOf j))) 256 refl k h)
-
--- the operations without the weight of those that are not a user's
-module _ (form need : ℕ) (e : need ≡ needOf (operationOf form)) where
-  told-class : need / 128 % 2 ≡ privilege (classOf (operationOf form))
-  told-class = ap (λ (m : ℕ). m / 128 % 2) e ∙ class-told (operationOf form) (omega arith)
-
-  pub user's : need / 128 % 2 ≡ 0 → classOf (operationOf form) ≡ User
-  user's h = user-only _ (sym told-class ∙ h)
-
-  pub not-user's : (need / 128 % 2 ≡ 0 → ⊥) → classOf (operationOf form) ≡ User → ⊥
-  not-user's h c = h (told-class ∙ ap privilege c)

@@ -7,13 +7,11 @@ use Rattle.choice.specs.Table.{tableOf}
 use Rattle.isa.specs.Accesses.{wordsRead, wordsWritten}
 
 -- 16: URS, one word read at a register. 32: SJS, one word written below a register. 64: LM POPM MOV STM PSHM XWR, on blocks.
--- 128: XIO BEX LST, not a user's.
 unfoldable pub exceptions : List (ℕ × ℕ)
 exceptions =
     (37, 16) ∷
     (36, 32) ∷
     (40, 64) ∷ (44, 64) ∷ (47, 64) ∷ (50, 64) ∷ (54, 64) ∷ (90, 64) ∷
-    (1, 128) ∷ (30, 128) ∷ (35, 128) ∷
     []
 
 -- the words read at the derived address, 4 times the words written there, and the exception's number

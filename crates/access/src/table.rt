@@ -1,8 +1,8 @@
 // What each operation needs, by its paragraph of section 5: the words that it reads at its derived address, plus 4 times those that it writes
-// there, plus 0x10 for URS, 0x20 for SJS, 0x40 for the operations on blocks and 0x80 for those that are not a user's.
+// there, plus 0x10 for URS, 0x20 for SJS and 0x40 for the operations on blocks.
 pub const NEEDS: [u16; 256] = [
     0x00, // 0
-    0x80, // 1 XIO
+    0x00, // 1 XIO
     0x00, // 2
     0x05, // 3 SB
     0x05, // 4 RB
@@ -31,12 +31,12 @@ pub const NEEDS: [u16; 256] = [
     0x00, // 27 BR
     0x00, // 28 BEZ
     0x00, // 29 BLT
-    0x80, // 30 BEX
+    0x00, // 30 BEX
     0x00, // 31 BLE
     0x00, // 32 BGT
     0x00, // 33 BNZ
     0x00, // 34 BGE
-    0x83, // 35 LST
+    0x03, // 35 LST
     0x20, // 36 SJS
     0x10, // 37 URS
     0x01, // 38 L

@@ -1,6 +1,7 @@
 // The operations on several registers or words at once (5.40, 5.44, 5.47, 5.50, 5.54, 5.90). Callers have 512 page registers.
 ghost use mathlib.Core.Path.{_≡_};
 ghost use mathlib.Core.Bool.{true};
+ghost use Prim.Native.Nat.{_≤_};
 ghost use lib.ListN.{length};
 ghost use Rattle.decode.specs.Forms.{operationOf};
 ghost use Rattle.machine.specs.State.{joined, keyOf, groupOf};
@@ -9,39 +10,25 @@ ghost use Rattle.isa.specs.Execute.{executed};
 ghost use Rattle.isa.specs.Accesses.{readsOf};
 ghost use Rattle.page.specs.Spans.{wordsOf};
 ghost use Rattle.block.specs.Operation.{isBlock, Worked};
-use access::accesses::reads;
 use machine::Core;
 use machine::Instruction;
+use page::Span;
 use page::read::read_span;
 
 pub mod operation;
 pub mod registers;
 pub mod stores;
 
-// Whether an operation is one of these.
-pub fn is_block(operation: u16) -> bool
-    ensures { λ r. ⌜ r ≡ isBlock operation ⌝ }
-{
-    match operation {
-        40 => true,
-        44 => true,
-        47 => true,
-        50 => true,
-        54 => true,
-        90 => true,
-        _ => false,
-    }
-}
-
-// One of these: its words are read, then stored, then the registers are set. Its caller has found it to be one.
+// One of these: its words are read from the span, then stored, then the registers are set. Its caller has found it to be one, and the span.
 pub fn block(
     core: Core,
     regs: &mut [u16; 16],
     memory: &mut [u16],
     pages: &[u16],
     n: Instruction,
+    from: Span,
 ) -> Core
-    requires { ⌜ (length (now pages) ≡ 512) × (isBlock (operationOf (n .form)) ≡ true) ⌝ }
+    requires { ⌜ (length (now pages) ≡ 512) × (isBlock (operationOf (n .form)) ≡ true) × (from ≡ readsOf (now regs) n) × (from .count ≤ 16) ⌝ }
     ensures { λ r. ⌜ Worked (joined core (now (regs .entry))) (now (memory .entry)) (now (pages .entry)) n
         (executed (contextOf (joined core (now (regs .entry)))) n
         (wordsOf (keyOf (core .sw)) (groupOf (core .sw)) (now (pages .entry)) (length (now (memory .entry))) (readsOf (now (regs .entry)) n) (now (memory .entry))))
@@ -50,7 +37,7 @@ pub fn block(
     let key = core.sw / 16 % 16;
     let group = core.sw % 16;
     let mut buf: [u16; 16] = [0; 16];
-    read_span(key, group, memory, pages, reads(regs, n), &mut buf);
+    read_span(key, group, memory, pages, from, &mut buf);
     stores::store_words(key, group, regs, memory, pages, n, &buf);
     operation::rearrange(core, regs, n, &buf)
 }

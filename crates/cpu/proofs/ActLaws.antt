@@ -1,5 +1,5 @@
 -- One instruction: what its accesses' verdict leads to, and what became of the machine after each kind of operation. Assumes nothing.
-use Prim.Native.Nat.{ℕ, _+_, _≤_}
+use Prim.Native.Nat.{ℕ, _+_, _/_, _%_, _≤_, _<_}
 use mathlib.Core.Path.{_≡_, refl, sym, ap, subst, _∙_}
 use mathlib.Core.Bool.{Bool, true, false, cond, _&&_, false≢true}
 use mathlib.Core.List.{List, [], _∷_}
@@ -28,11 +28,13 @@ use Rattle.machine.specs.Instructions.{call, fail, affect, View, view, permitte
 use Rattle.machine.specs.Step.{faulted, affected, stored, perform}
 use Rattle.isa.specs.Fields.{fieldA, register}
 use Rattle.isa.specs.Addressing.{inMemory}
-use Rattle.isa.specs.Accesses.{wordsWritten, atOperand, readsOf, writesOf}
+use Rattle.isa.specs.Accesses.{wordsMoved, wordsOfInteger, wordsOfFloat, wordsRead, wordsWritten, atOperand, readsOf, writesOf}
 use Rattle.isa.specs.Effects.{Context}
 use Rattle.isa.specs.Execute.{ordinary, executed}
 use Rattle.isa.specs.Commands.{supervisedBy}
 use Rattle.isa.specs.Mil1750.{classOf, contextOf, mil1750}
+use Rattle.access.specs.Needs.{exceptions, needOf}
+use Rattle.access.proofs.NeedsLaws.{reads-span, writes-span}
 use Rattle.command.specs.declared.Governed.{Governed}
 use Rattle.command.specs.declared.Governed.the-variants.{Done, Refused}
 use Rattle.command.specs.Outcome.{governed, Kept}
@@ -77,16 +79,14 @@ denied-gathered Clear ws v e h = absurd (false≢true (sym h ∙ ap (λ r. r .cl
 denied-gathered (Fault b) ws v e h = ap Fault (sym (ap (λ r. r .fault) e))
 
 -- v is what the code gathered from the span, by the key and the group of the state
-module _ (s : State) (m g : List ℕ) (n : Instruction) (key group : ℕ) (d : key ≡ keyOf (s .sw)) (e : group ≡ groupOf (s .sw)) (from : Span) (v : Gathered)
-    (i : from ≡ readsOf (s .regs) n) (j : from ≡ spanFrom (from .start) (from .count))
-    (k : v
-    ≡ gathered (checked key group g (length m) (spanFrom (from .start) (from .count)) Read)
-    (wordsOf key group g (length m) (spanFrom (from .start) (from .count)) m)) where
+module _ (s : State) (m g : List ℕ) (n : Instruction) (key group : ℕ) (d : key ≡ keyOf (s .sw)) (e : group ≡ groupOf (s .sw)) (from count : ℕ) (v : Gathered)
+    (i : spanFrom from count ≡ readsOf (s .regs) n)
+    (k : v ≡ gathered (checked key group g (length m) (spanFrom from count) Read) (wordsOf key group g (length m) (spanFrom from count) m)) where
   gathers : v
       ≡ gathered (checked (keyOf (s .sw)) (groupOf (s .sw)) g (length m) (readsOf (s .regs) n) Read)
       (wordsOf (keyOf (s .sw)) (groupOf (s .sw)) g (length m) (readsOf (s .regs) n) m)
   gathers =
-      rw (← d, ← e) (k ∙ ap (λ p. gathered (checked key group g (length m) p Read) (wordsOf key group g (length m) p m)) (sym j ∙ i))
+      rw (← d, ← e) (k ∙ ap (λ p. gathered (checked key group g (length m) p Read) (wordsOf key group g (length m) p m)) i)
 
   pub words-read : v .clear ≡ true → FirstThree (wordsOf (keyOf (s .sw)) (groupOf (s .sw)) g (length m) (readsOf (s .regs) n) m) (v .x) (v .y) (v .z)
   words-read h = all-gathered _ _ v gathers h .1
@@ -205,12 +205,41 @@ apart operation k h = by (eqb operation k) refl
 differs : (operation k : ℕ) → isBlock operation ≡ false → isBlock k ≡ true → eqb operation k ≡ false
 differs operation k h i = apart operation k (λ e. false≢true (sym h ∙ e ∙ i))
 
-pub no-block : (operation : ℕ) → isBlock operation ≡ false
-    → (eqb operation 40 ≡ false) × (eqb operation 44 ≡ false) × (eqb operation 47 ≡ false) × (eqb operation 50 ≡ false) × (eqb operation 54 ≡ false)
-unfolding isBlock
-no-block operation h =
-    let f : (k : ℕ) → isBlock k ≡ true → eqb operation k ≡ false = λ k i. differs operation k h i in
-    (f 40 refl, f 44 refl, f 47 refl, f 50 refl, f 54 refl)
+-- the weight of those on blocks, computed at every operation
+block-told : (k : ℕ) → k < 256 → needOf k / 64 % 2 ≡ cond (isBlock k) 1 0
+unfolding needOf exceptions wordsRead wordsMoved wordsOfFloat wordsOfInteger wordsWritten isBlock
+block-told k h = eqb-true _ _ (tests.passes (λ (j : ℕ). eqb (needOf j / 64 % 2) (cond (isBlock j) 1 0)) 256 refl k h)
+
+module _ (form need : ℕ) (e : need ≡ needOf (operationOf form)) where
+  weight : need / 64 % 2 ≡ cond (isBlock (operationOf form)) 1 0
+  weight = ap (λ (m : ℕ). m / 64 % 2) e ∙ block-told (operationOf form) (omega arith)
+
+  pub on-block : need / 64 % 2 ≡ 1 → isBlock (operationOf form) ≡ true
+  on-block h = by (isBlock (operationOf form)) weight
+    where
+      by : (b : Bool) → need / 64 % 2 ≡ cond b 1 0 → b ≡ true
+      by true w = refl
+      by false w = absurd (omega (arith, w, h))
+
+  pub off-block : (need / 64 % 2 ≡ 1 → ⊥) → isBlock (operationOf form) ≡ false
+  off-block h = by (isBlock (operationOf form)) weight
+    where
+      by : (b : Bool) → need / 64 % 2 ≡ cond b 1 0 → b ≡ false
+      by true w = absurd (h w)
+      by false w = refl
+
+  weightless : isBlock (operationOf form) ≡ false → need / 64 % 2 ≡ 0
+  weightless h = weight ∙ ap (λ (b : Bool). cond b 1 0) h
+
+-- where the words that it reads and writes start and how many they are, as the code finds them, are their spans
+module _ (regs : List ℕ) (n : Instruction) (need from count : ℕ) (e : need ≡ needOf (operationOf (n .form))) (h : isBlock (operationOf (n .form)) ≡ false) where
+  pub reads-by : (need / 64 % 2 ≡ 0 → from ≡ readsOf regs n .start) → ((r : List ℕ) → need / 64 % 2 ≡ 0 → count ≡ readsOf r n .count)
+      → spanFrom from count ≡ readsOf regs n
+  reads-by i j = let p = weightless (n .form) need e h in reads-span regs n need e p from count (i p) (j regs p)
+
+  pub writes-by : (need / 64 % 2 ≡ 0 → from ≡ writesOf regs n .start) → ((r : List ℕ) → need / 64 % 2 ≡ 0 → count ≡ writesOf r n .count)
+      → spanFrom from count ≡ writesOf regs n
+  writes-by i j = let p = weightless (n .form) need e h in writes-span regs n need e p from count (i p) (j regs p)
 
 -- those on blocks are users'
 pub block-user : (operation : ℕ) → isBlock operation ≡ true → classOf operation ≡ User

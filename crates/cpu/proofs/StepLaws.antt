@@ -1,17 +1,17 @@
 -- What a step does, its end, what stays over it, a run's steps by a turn, and what the questions before a run let through. Assumes nothing.
 use Prim.Native.Nat.{ℕ, zero, suc, _+_, _-_, _≤_, _<_}
 use mathlib.Core.Path.{_≡_, refl, sym, ap, subst, _∙_}
-use mathlib.Core.Bool.{Bool, true, false, not, _&&_, false≢true}
+use mathlib.Core.Bool.{Bool, true, false}
 use mathlib.Core.List.{List, []}
 use native.Mathlib.Omega.{arith}
 use native.Mathlib.Numerals.{sub-one}
-use lib.Dec.{T, eqb, eqb→eq}
-use borrow.Author.Tests.{eqb-true, lt-ltb, le-ltb}
+use lib.Dec.{T, eqb→eq}
+use borrow.Author.Tests.{lt-ltb, le-ltb}
 use Rattle.machine.specs.declared.State.{State}
 use Rattle.machine.specs.declared.Core.{Core}
 use Rattle.machine.specs.declared.Answer.{Answer}
 use Rattle.machine.specs.declared.Answer.the-variants.{Spent, BadMemory, BadPages, BadPorts, BadBudget, BadCounter}
-use Rattle.machine.specs.State.{withPi, withHold, withTa, withTb, withCount, joined}
+use Rattle.machine.specs.State.{withHold, joined}
 use Rattle.machine.specs.Machine.{Machine, machine, Became, Isa}
 use Rattle.machine.specs.Instructions.{enter, view, instructed}
 use Rattle.machine.specs.Entries.{takeable, chosen}
@@ -19,7 +19,7 @@ use Rattle.machine.specs.Step.{released, perform, begun, action, ticked, tick, 
 use Rattle.machine.specs.Runs.{numberOf, asked, admission, steps}
 use Rattle.machine.proofs.MachineLaws.{became-machine}
 use Rattle.interrupt.specs.Later.{Calm, later}
-use Rattle.interrupt.proofs.LaterLaws.{calm-alike, ticked-later}
+use Rattle.interrupt.proofs.LaterLaws.{calm-alike, ticked-later, later-none}
 use Rattle.cpu.specs.Settled.{Settled, after}
 
 -- ---- what a step does, from the interrupt n that is chosen
@@ -114,22 +114,53 @@ module _ (isa : Isa) (k : ℕ) (s : State) (m g o : List ℕ) (lag : ℕ) (b : B
   ticks = ap (λ x. steps isa k (tick x)) (sym (became-machine f))
 
   -- it is not settled; r is the core after the tick
-  pub going-end : (r : Core) → ((v : List ℕ) → joined r v ≡ ticked (joined c v)) → b ≡ false → going isa k s m g o ≡ steps isa k (machine (joined r regs) m' g' o')
-  going-end r t h = ticks ∙ ap (λ d. steps isa k (machine (ticked (after d lag (joined c regs))) m' g' o')) h ∙ ap (λ u. steps isa k (machine u m' g' o')) (sym (t regs))
+  pub going-end : (r : Core) → ((v : List ℕ) → joined r v ≡ ticked (joined c v)) → b ≡ false → (i : ℕ) → k ≡ i → going isa k s m g o ≡ steps isa i (machine (joined r regs) m' g' o')
+  going-end r t h i e =
+      ticks ∙ ap (λ d. steps isa k (machine (ticked (after d lag (joined c regs))) m' g' o')) h ∙ ap (λ u. steps isa k (machine u m' g' o')) (sym (t regs))
+      ∙ ap (λ z. steps isa z (machine (joined r regs) m' g' o')) e
 
   -- it is settled
-  pub going-late : (j : ℕ) → j ≡ lag → b ≡ true → going isa k s m g o ≡ steps isa k (machine (ticked (later j (joined c regs))) m' g' o')
-  going-late j e h = ticks ∙ ap (λ d. steps isa k (machine (ticked (after d lag (joined c regs))) m' g' o')) h ∙ ap (λ i. steps isa k (machine (ticked (later i (joined c regs))) m' g' o')) (sym e)
+  pub going-late : b ≡ true → going isa k s m g o ≡ steps isa k (machine (ticked (later lag (joined c regs))) m' g' o')
+  going-late h = ticks ∙ ap (λ d. steps isa k (machine (ticked (after d lag (joined c regs))) m' g' o')) h
 
--- and the next instruction follows at once, with k - 1 steps after it
-pub going-on : (isa : Isa) (k j n : ℕ) (c : Core) (regs m g o : List ℕ) → k ≡ j + 1 → c .hold ≡ false → 16 ≤ chosen (joined c regs) → Calm (n + 1) c
-    → steps isa k (machine (ticked (later n (joined c regs))) m g o) ≡ going isa j (later (n + 1) (joined c regs)) m g o
+-- with equal numbers
+pub equal-steps : (isa : Isa) (k k' j j' : ℕ) (s : State) (m g o : List ℕ) → k ≡ k' → j ≡ j'
+    → steps isa k (machine (ticked (later j s)) m g o) ≡ steps isa k' (machine (ticked (later j' s)) m g o)
+equal-steps isa k k' j j' s m g o e h = ap (λ i. steps isa i (machine (ticked (later j s)) m g o)) e ∙ ap (λ i. steps isa k' (machine (ticked (later i s)) m g o)) h
+
+-- with no tick to make up for
+pub going-first : (isa : Isa) (n z : ℕ) (s : State) (m g o : List ℕ) → z ≡ 0 → going isa (n - 1) s m g o ≡ going isa (n - (z + 1)) (later z s) m g o
+going-first isa n z s m g o e =
+    subst (λ k. going isa (n - 1) s m g o ≡ going isa (n - (k + 1)) (later k s) m g o) (sym e) (ap (λ u. going isa (n - 1) u m g o) (sym (later-none s)))
+
+-- and the next instruction follows at once, with j steps after it
+pub going-on : (isa : Isa) (k j n i : ℕ) (c : Core) (regs m g o : List ℕ) → k ≡ j + 1 → i ≡ n + 1 → c .hold ≡ false → 16 ≤ chosen (joined c regs) → Calm i c
+    → steps isa k (machine (ticked (later n (joined c regs))) m g o) ≡ going isa j (later i (joined c regs)) m g o
 unfolding chosen takeable
-going-on isa k j n c regs m g o e h i calm =
-    let next = later (n + 1) (joined c regs) in
-    ap (λ u. steps isa k (machine u m g o)) (ticked-later (joined c regs) n (calm .a-inside) (calm .b-inside) (calm .count-inside))
-    ∙ going-start isa k (machine next m g o) next (released-same next h) (omega arith) i
+going-on isa k j n i c regs m g o e f h q calm =
+    let next = later i (joined c regs) in
+    let calmly = subst (λ z. Calm z c) f calm in
+    ap (λ u. steps isa k (machine u m g o)) (ticked-later (joined c regs) n (calmly .a-inside) (calmly .b-inside) (calmly .count-inside)
+    ∙ ap (λ z. later z (joined c regs)) (sym f))
+    ∙ going-start isa k (machine next m g o) next (released-same next h) (omega arith) q
     ∙ ap (λ z. going isa z next m g o) (omega arith)
+
+-- ---- of n steps at most `most` are made at once, and `left` of these are left
+
+module _ (n most left : ℕ) (h : 0 < left) (b : left ≤ most) where
+  -- the lag one step on
+  pub lag-next : most - (left - 1) ≡ most - left + 1
+  lag-next = omega arith
+
+  pub lag-before : most - left ≡ most - (left - 1) - 1
+  lag-before = omega arith
+
+  -- the steps after it
+  pub rest-next : n - (most - left + 1) ≡ n - (most - (left - 1))
+  rest-next = ap (λ k. n - k) (sym lag-next)
+
+  pub rest-after : 0 < left - 1 → most ≤ n → n - (most - left + 1) ≡ n - (most - (left - 1) + 1) + 1
+  rest-after i j = rw lag-next (omega arith)
 
 -- ---- the questions
 

@@ -15,17 +15,21 @@ ghost use Rattle.machine.specs.Step.{faulted, perform};
 ghost use Rattle.isa.specs.Accesses.{readsOf, writesOf};
 ghost use Rattle.isa.specs.Commands.{supervisedBy};
 ghost use Rattle.isa.specs.Mil1750.{classOf, mil1750};
+ghost use Rattle.access.specs.Needs.{needOf, allNeeds};
 ghost use Rattle.block.specs.Operation.{isBlock};
 ghost use Rattle.ordinary.specs.Gathers.{FirstThree};
 ghost use Rattle.interrupt.specs.Later.{Calm, later};
 ghost use Rattle.cpu.specs.Settled.{Settled, after};
 ghost use lib.Dec.{eqb};
-use access::accesses::few_reads;
-use access::accesses::few_writes;
 use access::accesses::reads;
+use access::accesses::span_from;
 use access::accesses::writes;
+use access::needs::need_with;
+use access::needs::read_count;
+use access::needs::read_start;
+use access::needs::write_count;
+use access::needs::write_start;
 use block::block;
-use block::is_block;
 use command::Governed;
 use command::supervise;
 use interrupt::entry::enter;
@@ -39,6 +43,7 @@ use machine::Class;
 use machine::Core;
 use machine::Instruction;
 use machine::Prepared;
+use ordinary::Gathered;
 use ordinary::gather;
 use ordinary::work;
 use page::Access;
@@ -130,7 +135,7 @@ fn carry_block(
     let to = writes(regs, n);
     let verdict = verify(core.sw, pages, memory.len(), from, to);
     match verdict {
-        Verdict::Clear => weighed(core.pi, lag, block(core, regs, memory, pages, n)),
+        Verdict::Clear => weighed(core.pi, lag, block(core, regs, memory, pages, n, from)),
         Verdict::Fault(b) => deny(core, lag, b, advance(core.ic, n.form / 4096)),
     }
 }
@@ -209,11 +214,10 @@ fn operate(
 {
     let class = class_of(n.form % 256);
     match class {
-        Class::User => weighed(
-            core.pi,
-            lag,
-            work(core, regs, memory, pages, n, x, y, z, to),
-        ),
+        Class::User => {
+            let done = work(core, regs, memory, pages, n, x, y, z, to);
+            weighed(core.pi, lag, done)
+        }
         Class::Supervisor => {
             let late = tick_by(core, lag);
             unsettled(govern(late, regs, pages, ports, n, x, y, z))
@@ -225,7 +229,7 @@ fn operate(
     }
 }
 
-// An operation on at most three words, which have been read: its stores are checked before it changes anything.
+// An operation on at most three words, which have been read as g: its stores are checked before it changes anything.
 fn proceed(
     core: Core,
     lag: u32,
@@ -236,12 +240,12 @@ fn proceed(
     pages: &mut [u16],
     ports: &mut [u16],
     n: Instruction,
-    x: u16,
-    y: u16,
-    z: u16,
+    g: Gathered,
+    need: u16,
 ) -> Moved
     requires { ⌜ (length (now pages) ≡ 512) × (length (now ports) ≡ 1024) × (isBlock (operationOf (n .form)) ≡ false)
-        × FirstThree (wordsOf (keyOf (core .sw)) (groupOf (core .sw)) (now pages) (length (now memory)) (readsOf (now regs) n) (now memory)) x y z × (key ≡ keyOf (core .sw)) × (group ≡ groupOf (core .sw)) × (group < 16) × Calm lag core ⌝ }
+        × FirstThree (wordsOf (keyOf (core .sw)) (groupOf (core .sw)) (now pages) (length (now memory)) (readsOf (now regs) n) (now memory)) (g .x) (g .y) (g .z) × (key ≡ keyOf (core .sw)) × (group ≡ groupOf (core .sw)) × (group < 16) × Calm lag core
+        × (need ≡ needOf (operationOf (n .form))) ⌝ }
     ensures { λ r. ⌜ (Became (perform (later lag (joined core (now (regs .entry)))) (now (memory .entry)) (now (pages .entry)) (now (ports .entry))
         (spec.accessed mil1750 (later lag (joined core (now (regs .entry)))) (now (pages .entry)) (now (ports .entry))
         (spec.view (later lag (joined core (now (regs .entry)))) (now (memory .entry)) (now (pages .entry))) n
@@ -249,10 +253,10 @@ fn proceed(
         (after (r .settled) lag (joined (r .core) (now (regs .exit)))) (now (memory .exit)) (now (pages .exit)) (now (ports .exit)))
         × (r .settled ≡ true → Settled core (r .core)) ⌝ }
 {
-    let to = few_writes(regs, n);
+    let to = span_from(write_start(regs, n, need), write_count(n, need));
     let verdict = check_span(Access::Write, key, group, pages, memory.len(), to);
     match verdict {
-        Verdict::Clear => operate(core, lag, regs, memory, pages, ports, n, x, y, z, to),
+        Verdict::Clear => operate(core, lag, regs, memory, pages, ports, n, g.x, g.y, g.z, to),
         Verdict::Fault(b) => deny(core, lag, b, advance(core.ic, n.form / 4096)),
     }
 }
@@ -268,20 +272,19 @@ fn carry(
     pages: &mut [u16],
     ports: &mut [u16],
     n: Instruction,
+    need: u16,
 ) -> Moved
-    requires { ⌜ (length (now pages) ≡ 512) × (length (now ports) ≡ 1024) × (key ≡ keyOf (core .sw)) × (group ≡ groupOf (core .sw)) × (group < 16) × Calm lag core ⌝ }
+    requires { ⌜ (length (now pages) ≡ 512) × (length (now ports) ≡ 1024) × (key ≡ keyOf (core .sw)) × (group ≡ groupOf (core .sw)) × (group < 16) × Calm lag core × (need ≡ needOf (operationOf (n .form))) ⌝ }
     ensures { λ r. ⌜ (Became (perform (later lag (joined core (now (regs .entry)))) (now (memory .entry)) (now (pages .entry)) (now (ports .entry))
-        (spec.carried mil1750 (later lag (joined core (now (regs .entry)))) (now (pages .entry)) (now (ports .entry))
-        (spec.view (later lag (joined core (now (regs .entry)))) (now (memory .entry)) (now (pages .entry))) (Prepared.Ready n)))
-        (after (r .settled) lag (joined (r .core) (now (regs .exit)))) (now (memory .exit)) (now (pages .exit)) (now (ports .exit)))
-        × (r .settled ≡ true → Settled core (r .core)) ⌝ }
+        (spec.carried mil1750 (later lag (joined core (now (regs .entry)))) (now (pages .entry)) (now (ports .entry)) (spec.view (later lag (joined core (now (regs .entry)))) (now (memory .entry)) (now (pages .entry))) (Prepared.Ready n)))
+        (after (r .settled) lag (joined (r .core) (now (regs .exit)))) (now (memory .exit)) (now (pages .exit)) (now (ports .exit))) × (r .settled ≡ true → Settled core (r .core)) ⌝ }
 {
-    if is_block(n.form % 256) {
+    if need / 64 % 2 == 1 {
         return carry_block(core, lag, regs, memory, pages, n);
     }
-    let from = few_reads(regs, n);
-    let gathered = gather(key, group, memory, pages, from.start, from.count);
-    if gathered.clear {
+    let from = read_start(regs, n, need);
+    let g = gather(key, group, memory, pages, from, read_count(n, need));
+    if g.clear {
         return proceed(
             core,
             lag,
@@ -292,15 +295,14 @@ fn carry(
             pages,
             ports,
             n,
-            gathered.x,
-            gathered.y,
-            gathered.z,
+            g,
+            need,
         );
     }
-    deny(core, lag, gathered.fault, advance(core.ic, n.form / 4096))
+    deny(core, lag, g.fault, advance(core.ic, n.form / 4096))
 }
 
-// The instruction at IC, from a core whose hold mark is clear. The table is the decoder's.
+// The instruction at IC, from a core whose hold mark is clear. The tables are the decoder's and that of needs.
 pub fn instruct(
     core: Core,
     lag: u32,
@@ -311,8 +313,10 @@ pub fn instruct(
     pages: &mut [u16],
     ports: &mut [u16],
     table: &[u16; 256],
+    needs: &[u16; 256],
 ) -> Moved
-    requires { ⌜ (length (now pages) ≡ 512) × (length (now ports) ≡ 1024) × (now table ≡ forms) × (key ≡ keyOf (core .sw)) × (group ≡ groupOf (core .sw)) × (group < 16) × Calm lag core ⌝ }
+    requires { ⌜ (length (now pages) ≡ 512) × (length (now ports) ≡ 1024) × (now table ≡ forms) × (key ≡ keyOf (core .sw)) × (group ≡ groupOf (core .sw)) × (group < 16) × Calm lag core
+        × (now needs ≡ allNeeds) ⌝ }
     ensures { λ r. ⌜ (Became (perform (later lag (joined core (now (regs .entry)))) (now (memory .entry)) (now (pages .entry)) (now (ports .entry))
         (spec.instructed mil1750 (later lag (joined core (now (regs .entry)))) (now (pages .entry)) (now (ports .entry))
         (spec.view (later lag (joined core (now (regs .entry)))) (now (memory .entry)) (now (pages .entry)))))
@@ -321,7 +325,10 @@ pub fn instruct(
 {
     let prepared = prepare(core, key, group, regs, memory, pages, table);
     match prepared {
-        Prepared::Ready(n) => carry(core, lag, key, group, regs, memory, pages, ports, n),
+        Prepared::Ready(n) => {
+            let need = need_with(needs, n.form);
+            carry(core, lag, key, group, regs, memory, pages, ports, n, need)
+        }
         Prepared::Denied(b, a) => deny(core, lag, b, a),
     }
 }

@@ -11,6 +11,7 @@ ghost use Rattle.machine.specs.Entries.{chosen};
 ghost use Rattle.machine.specs.Step as spec;
 ghost use Rattle.machine.specs.Runs.{numberOf, wholePages, admission, answerOf, steps, left};
 ghost use Rattle.isa.specs.Mil1750.{mil1750};
+ghost use Rattle.access.specs.Needs.{allNeeds};
 use crate::act::instruct;
 use interrupt::entry::enter;
 use interrupt::fields::group_of;
@@ -60,31 +61,33 @@ fn go_on(
     pages: &mut [u16],
     ports: &mut [u16],
     table: &[u16; 256],
+    needs: &[u16; 256],
     n: u32,
 ) -> Rest
     requires { ⌜ (length (now pages) ≡ 512) × (length (now ports) ≡ 1024) × (now table ≡ forms) × (key ≡ keyOf (core .sw)) × (group ≡ groupOf (core .sw))
-        × (group < 16) × (0 < n) × (16 ≤ chosen (joined core (now regs))) ⌝ }
+        × (group < 16) × (0 < n) × (16 ≤ chosen (joined core (now regs))) × (now needs ≡ allNeeds) ⌝ }
     ensures { λ r. ⌜ (r .left < n) × (steps mil1750 n (machine (joined core (now (regs .entry))) (now (memory .entry)) (now (pages .entry)) (now (ports .entry)))
         ≡ steps mil1750 (r .left) (machine (joined (r .core) (now (regs .exit))) (now (memory .exit)) (now (pages .exit)) (now (ports .exit)))) ⌝ }
 {
     let most = quiet(core, spare(core.hold, n - 1)) + 1;
     let mut t = release(core);
-    let mut lag: u32 = 0;
-    while lag < most {
-        let moved = instruct(t, lag, key, group, regs, memory, pages, ports, table);
-        lag += 1;
+    let mut left = most;
+    while 0 < left {
+        let lag = most - left;
+        let moved = instruct(t, lag, key, group, regs, memory, pages, ports, table, needs);
+        left -= 1;
         t = moved.core;
         if !moved.settled {
             return Rest {
                 core: tick(t),
-                left: n - lag,
+                left: n - (most - left),
             };
         }
     }
-    let late = tick_by(t, lag - 1);
+    let late = tick_by(t, most - 1);
     Rest {
         core: tick(late),
-        left: n - lag,
+        left: n - most,
     }
 }
 
@@ -96,25 +99,26 @@ fn run_steps(
     pages: &mut [u16],
     ports: &mut [u16],
     table: &[u16; 256],
+    needs: &[u16; 256],
     n: u32,
 ) -> Core
-    requires { ⌜ (length (now pages) ≡ 512) × (length (now ports) ≡ 1024) × (now table ≡ forms) ⌝ }
+    requires { ⌜ (length (now pages) ≡ 512) × (length (now ports) ≡ 1024) × (now table ≡ forms) × (now needs ≡ allNeeds) ⌝ }
     ensures { λ r. ⌜ Became (steps mil1750 n (machine (joined core (now (regs .entry))) (now (memory .entry)) (now (pages .entry)) (now (ports .entry))))
         (joined r (now (regs .exit))) (now (memory .exit)) (now (pages .exit)) (now (ports .exit)) ⌝ }
 {
     let mut t = core;
-    let mut left = n;
-    while 0 < left {
+    let mut due = n;
+    while 0 < due {
         let i = choose(t.hold, t.enabled, t.mk, t.pi);
         if i < 16 {
             t = interrupted(t, memory, pages, i);
-            left -= 1;
+            due -= 1;
         } else {
             let key = key_of(t.sw);
             let group = group_of(t.sw);
-            let rest = go_on(t, key, group, regs, memory, pages, ports, table, left);
+            let rest = go_on(t, key, group, regs, memory, pages, ports, table, needs, due);
             t = rest.core;
-            left = rest.left;
+            due = rest.left;
         }
     }
     t
@@ -231,9 +235,19 @@ pub fn run(
     let answer = ask(memory.len(), pages.len(), ports.len(), state.count, budget);
     if number(answer) == 0 {
         let table = decode::table();
+        let needs = access::needs::table();
         let mut regs = state.regs;
         let core = part(state);
-        let last = run_steps(core, &mut regs, memory, pages, ports, &table, budget);
+        let last = run_steps(
+            core,
+            &mut regs,
+            memory,
+            pages,
+            ports,
+            &table,
+            &needs,
+            budget,
+        );
         return Ran {
             answer,
             state: join(last, regs),

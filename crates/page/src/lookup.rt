@@ -37,10 +37,10 @@ pub fn register(access: Access, group: u16, a: u16) -> usize
 pub fn locate(access: Access, key: u16, size: usize, w: u16, a: u16) -> Place
     ensures { λ r. ⌜ r ≡ through access key size w a ⌝ }
 {
-    if !admitted(key, lock(w)) {
+    if forbidden(access, w) {
         return Place::Refused(0x8000);
     }
-    if forbidden(access, w) {
+    if !admitted(key, lock(w)) {
         return Place::Refused(0x8000);
     }
     let p = 4096 * frame(w) as usize + (a % 4096) as usize;

@@ -2,26 +2,23 @@
 use mathlib.Core.Path.{_≡_, refl, sym, ap, _∙_}
 use mathlib.Core.Bool.{false≢true}
 use Rattle.interrupt.specs.Later.{later}
-use Rattle.cpu.proofs.ActLaws.{no-block, words-read, carried-read, carried-denied, failed}
+use Rattle.cpu.proofs.ActLaws.{on-block, off-block, reads-by, words-read, carried-read, carried-denied, failed}
 use Rattle.machine.specs.State.{joined}
 use borrow.Author.Needs.{needs}
 use Rattle.cpu.proofs.act.carry.Statement.{statement}
 use Rattle.cpu.proofs.act.carry.Tie as tie
 use Rattle.cpu.proofs.act.carry.Reads as reads
 use Rattle.cpu.proofs.act.carry.Lts as lts
-use Rattle.access.proofs.accesses.few_reads.Reads as few-reads-reads
-use Rattle.block.proofs.is_block.Reads as is-block-reads
+use Rattle.access.proofs.needs.read_count.Reads as read-count-reads
+use Rattle.access.proofs.needs.read_start.Reads as read-start-reads
 use Rattle.cpu.proofs.act.carry_block.Reads as carry-block-reads
 use Rattle.cpu.proofs.act.deny.Reads as deny-reads
 use Rattle.cpu.proofs.act.proceed.Reads as proceed-reads
 use Rattle.interrupt.proofs.fields.advance.Reads as advance-reads
 use Rattle.ordinary.proofs.gather.Reads as gather-reads
 
-is-block-requires : tie.Need-is-block-requires
-is-block-requires c κs = search needs
-
 carry-block-requires : tie.Need-carry-block-requires
-carry-block-requires c κs = (c .before .before .before .before .before .before .before .before .before .pre .0, sym (c .before .before .before .before .is-block .ensures) ∙ c .before .before .before .if1 .taken, c .before .before .before .before .before .before .before .before .before .pre .5)
+carry-block-requires c κs = (c .before .before .before .before .before .before .before .pre .0, on-block (c .before .before .before .before .before .before .before .args .n .form) (c .before .before .before .before .before .before .before .args .need) (c .before .before .before .before .before .before .before .pre .6) (c .before .before .before .if1 .taken), c .before .before .before .before .before .before .before .pre .5)
 
 same-length : tie.Need-same-length
 same-length c = search needs
@@ -30,16 +27,19 @@ same-length-2 : tie.Need-same-length-2
 same-length-2 c = search needs
 
 returns : tie.Need-returns
-returns c = (c .before .before .carry-block .ensures .0 (c .before .before .before .before .before .before .before .before .before .before .before .before .args .ports .now), c .before .before .carry-block .ensures .1)
+returns c = (c .before .before .carry-block .ensures .0 (c .before .before .before .before .before .before .before .before .before .before .args .ports .now), c .before .before .carry-block .ensures .1)
 
-few-reads-requires : tie.Need-few-reads-requires
-few-reads-requires c κs = search needs
+read-start-requires : tie.Need-read-start-requires
+read-start-requires c κs = c .before .before .before .before .before .pre .6
+
+read-count-requires : tie.Need-read-count-requires
+read-count-requires c κs = c .before .before .before .before .before .before .before .before .pre .6
 
 gather-requires : tie.Need-gather-requires
-gather-requires c κs = (c .before .before .before .before .before .before .before .before .before .before .pre .0, c .before .before .before .before .before .before .before .before .before .before .pre .4, c .before .before .few-reads .ensures .1)
+gather-requires c κs = (c .before .before .before .before .before .before .before .before .before .pre .0, c .before .before .before .before .before .before .before .before .before .pre .4, c .read-count .ensures .1)
 
 proceed-requires : tie.Need-proceed-requires
-proceed-requires c κs = (c .before .before .before .before .before .before .before .before .before .before .before .before .before .before .before .before .pre .0, c .before .before .before .before .before .before .before .before .before .before .before .before .before .before .before .before .pre .1, sym (c .before .before .before .before .before .before .before .before .before .before .before .is-block .ensures) ∙ c .before .before .before .before .before .before .before .before .before .before .if1 .left, words-read (later (c .before .before .before .before .before .before .before .before .before .before .before .before .before .before .before .before .args .lag) (joined (c .before .before .before .before .before .before .before .before .before .before .before .before .before .before .before .before .args .core) (c .before .before .before .before .before .before .before .before .before .before .before .before .before .before .before .before .args .regs .now))) (c .before .before .before .before .before .before .before .before .before .before .before .before .before .before .before .before .args .memory .now) (c .before .before .before .before .before .before .before .before .before .before .before .before .before .before .before .before .args .pages .now) (c .before .before .before .before .before .before .before .before .before .before .before .before .before .before .before .before .args .n) _ _ (c .before .before .before .before .before .before .before .before .before .before .before .before .before .before .before .before .pre .2) (c .before .before .before .before .before .before .before .before .before .before .before .before .before .before .before .before .pre .3) _ _ (c .before .before .before .before .before .before .before .before .few-reads .ensures .2 (no-block _ (sym (c .before .before .before .before .before .before .before .before .before .before .before .is-block .ensures) ∙ c .before .before .before .before .before .before .before .before .before .before .if1 .left) .0) (no-block _ (sym (c .before .before .before .before .before .before .before .before .before .before .before .is-block .ensures) ∙ c .before .before .before .before .before .before .before .before .before .before .if1 .left) .1) (no-block _ (sym (c .before .before .before .before .before .before .before .before .before .before .before .is-block .ensures) ∙ c .before .before .before .before .before .before .before .before .before .before .if1 .left) .2)) (c .before .before .before .before .before .before .before .before .few-reads .ensures .0) (c .before .before .before .before .before .gather .ensures) (c .before .before .before .before .if2 .taken), c .before .before .before .before .before .before .before .before .before .before .before .before .before .before .before .before .pre .2, c .before .before .before .before .before .before .before .before .before .before .before .before .before .before .before .before .pre .3, c .before .before .before .before .before .before .before .before .before .before .before .before .before .before .before .before .pre .4, c .before .before .before .before .before .before .before .before .before .before .before .before .before .before .before .before .pre .5)
+proceed-requires c κs = (c .before .before .before .before .before .before .before .before .before .before .before .before .before .before .before .pre .0, c .before .before .before .before .before .before .before .before .before .before .before .before .before .before .before .pre .1, (off-block (c .before .before .before .before .before .before .before .before .before .before .before .before .before .before .before .args .n .form) (c .before .before .before .before .before .before .before .before .before .before .before .before .before .before .before .args .need) (c .before .before .before .before .before .before .before .before .before .before .before .before .before .before .before .pre .6) (c .before .before .before .before .before .before .before .before .before .before .before .if1 .left)), words-read (later (c .before .before .before .before .before .before .before .before .before .before .before .before .before .before .before .args .lag) (joined (c .before .before .before .before .before .before .before .before .before .before .before .before .before .before .before .args .core) (c .before .before .before .before .before .before .before .before .before .before .before .before .before .before .before .args .regs .now))) (c .before .before .before .before .before .before .before .before .before .before .before .before .before .before .before .args .memory .now) (c .before .before .before .before .before .before .before .before .before .before .before .before .before .before .before .args .pages .now) (c .before .before .before .before .before .before .before .before .before .before .before .before .before .before .before .args .n) _ _ (c .before .before .before .before .before .before .before .before .before .before .before .before .before .before .before .pre .2) (c .before .before .before .before .before .before .before .before .before .before .before .before .before .before .before .pre .3) _ _ _ (reads-by (c .before .before .before .before .before .before .before .before .before .before .before .before .before .before .before .args .regs .now) (c .before .before .before .before .before .before .before .before .before .before .before .before .before .before .before .args .n) (c .before .before .before .before .before .before .before .before .before .before .before .before .before .before .before .args .need) _ _ (c .before .before .before .before .before .before .before .before .before .before .before .before .before .before .before .pre .6) (off-block (c .before .before .before .before .before .before .before .before .before .before .before .before .before .before .before .args .n .form) (c .before .before .before .before .before .before .before .before .before .before .before .before .before .before .before .args .need) (c .before .before .before .before .before .before .before .before .before .before .before .before .before .before .before .pre .6) (c .before .before .before .before .before .before .before .before .before .before .before .if1 .left)) (c .before .before .before .before .before .before .before .before .before .read-start .ensures) (c .before .before .before .before .before .before .read-count .ensures .0)) (c .before .before .before .before .before .gather .ensures) (c .before .before .before .before .if2 .taken), c .before .before .before .before .before .before .before .before .before .before .before .before .before .before .before .pre .2, c .before .before .before .before .before .before .before .before .before .before .before .before .before .before .before .pre .3, c .before .before .before .before .before .before .before .before .before .before .before .before .before .before .before .pre .4, c .before .before .before .before .before .before .before .before .before .before .before .before .before .before .before .pre .5, c .before .before .before .before .before .before .before .before .before .before .before .before .before .before .before .pre .6)
 
 same-length-3 : tie.Need-same-length-3
 same-length-3 c = search needs
@@ -51,13 +51,13 @@ same-length-5 : tie.Need-same-length-5
 same-length-5 c = search needs
 
 returns-2 : tie.Need-returns-2
-returns-2 c = (rw (← carried-read (later (c .before .before .before .before .before .before .before .before .before .before .before .before .before .before .before .before .before .before .before .before .before .before .before .args .lag) (joined (c .before .before .before .before .before .before .before .before .before .before .before .before .before .before .before .before .before .before .before .before .before .before .before .args .core) (c .before .before .before .before .before .before .before .before .before .before .before .before .before .before .before .before .before .before .before .before .before .before .before .args .regs .now))) (c .before .before .before .before .before .before .before .before .before .before .before .before .before .before .before .before .before .before .before .before .before .before .before .args .memory .now) (c .before .before .before .before .before .before .before .before .before .before .before .before .before .before .before .before .before .before .before .before .before .before .before .args .pages .now) (c .before .before .before .before .before .before .before .before .before .before .before .before .before .before .before .before .before .before .before .before .before .before .before .args .n) _ _ (c .before .before .before .before .before .before .before .before .before .before .before .before .before .before .before .before .before .before .before .before .before .before .before .pre .2) (c .before .before .before .before .before .before .before .before .before .before .before .before .before .before .before .before .before .before .before .before .before .before .before .pre .3) _ _ (c .before .before .before .before .before .before .before .before .before .before .before .before .before .before .before .few-reads .ensures .2 (no-block _ (sym (c .before .before .before .before .before .before .before .before .before .before .before .before .before .before .before .before .before .before .is-block .ensures) ∙ c .before .before .before .before .before .before .before .before .before .before .before .before .before .before .before .before .before .if1 .left) .0) (no-block _ (sym (c .before .before .before .before .before .before .before .before .before .before .before .before .before .before .before .before .before .before .is-block .ensures) ∙ c .before .before .before .before .before .before .before .before .before .before .before .before .before .before .before .before .before .if1 .left) .1) (no-block _ (sym (c .before .before .before .before .before .before .before .before .before .before .before .before .before .before .before .before .before .before .is-block .ensures) ∙ c .before .before .before .before .before .before .before .before .before .before .before .before .before .before .before .before .before .if1 .left) .2)) (c .before .before .before .before .before .before .before .before .before .before .before .before .before .before .before .few-reads .ensures .0) (c .before .before .before .before .before .before .before .before .before .before .before .before .gather .ensures) (c .before .before .before .before .before .before .before .before .before .before .before .before .before .before .before .before .before .before .before .before .before .before .before .args .ports .now) (c .before .before .before .before .before .before .before .before .before .before .before .if2 .taken)) (c .before .before .before .before .before .before .proceed .ensures .0), c .before .before .before .before .before .before .proceed .ensures .1)
+returns-2 c = (rw (← carried-read (later (c .before .before .before .before .before .before .before .before .before .before .before .before .before .before .before .before .before .before .before .before .before .before .args .lag) (joined (c .before .before .before .before .before .before .before .before .before .before .before .before .before .before .before .before .before .before .before .before .before .before .args .core) (c .before .before .before .before .before .before .before .before .before .before .before .before .before .before .before .before .before .before .before .before .before .before .args .regs .now))) (c .before .before .before .before .before .before .before .before .before .before .before .before .before .before .before .before .before .before .before .before .before .before .args .memory .now) (c .before .before .before .before .before .before .before .before .before .before .before .before .before .before .before .before .before .before .before .before .before .before .args .pages .now) (c .before .before .before .before .before .before .before .before .before .before .before .before .before .before .before .before .before .before .before .before .before .before .args .n) _ _ (c .before .before .before .before .before .before .before .before .before .before .before .before .before .before .before .before .before .before .before .before .before .before .pre .2) (c .before .before .before .before .before .before .before .before .before .before .before .before .before .before .before .before .before .before .before .before .before .before .pre .3) _ _ _ (reads-by (c .before .before .before .before .before .before .before .before .before .before .before .before .before .before .before .before .before .before .before .before .before .before .args .regs .now) (c .before .before .before .before .before .before .before .before .before .before .before .before .before .before .before .before .before .before .before .before .before .before .args .n) (c .before .before .before .before .before .before .before .before .before .before .before .before .before .before .before .before .before .before .before .before .before .before .args .need) _ _ (c .before .before .before .before .before .before .before .before .before .before .before .before .before .before .before .before .before .before .before .before .before .before .pre .6) (off-block (c .before .before .before .before .before .before .before .before .before .before .before .before .before .before .before .before .before .before .before .before .before .before .args .n .form) (c .before .before .before .before .before .before .before .before .before .before .before .before .before .before .before .before .before .before .before .before .before .before .args .need) (c .before .before .before .before .before .before .before .before .before .before .before .before .before .before .before .before .before .before .before .before .before .before .pre .6) (c .before .before .before .before .before .before .before .before .before .before .before .before .before .before .before .before .before .before .if1 .left)) (c .before .before .before .before .before .before .before .before .before .before .before .before .before .before .before .before .read-start .ensures) (c .before .before .before .before .before .before .before .before .before .before .before .before .before .read-count .ensures .0)) (c .before .before .before .before .before .before .before .before .before .before .before .before .gather .ensures) (c .before .before .before .before .before .before .before .before .before .before .before .before .before .before .before .before .before .before .before .before .before .before .args .ports .now) (c .before .before .before .before .before .before .before .before .before .before .before .if2 .taken)) (c .before .before .before .before .before .before .proceed .ensures .0), c .before .before .before .before .before .before .proceed .ensures .1)
 
 advance-requires : tie.Need-advance-requires
 advance-requires c κs = search needs
 
 deny-requires : tie.Need-deny-requires
-deny-requires c κs = c .before .before .before .before .before .before .before .before .before .before .before .before .before .before .pre .5
+deny-requires c κs = c .before .before .before .before .before .before .before .before .before .before .before .before .before .pre .5
 
 same-length-6 : tie.Need-same-length-6
 same-length-6 c = search needs
@@ -66,18 +66,18 @@ same-length-7 : tie.Need-same-length-7
 same-length-7 c = search needs
 
 returns-3 : tie.Need-returns-3
-returns-3 c = (rw (c .deny .ensures .0, ← carried-denied (later (c .before .before .before .before .before .before .before .before .before .before .before .before .before .before .before .args .lag) (joined (c .before .before .before .before .before .before .before .before .before .before .before .before .before .before .before .args .core) (c .before .before .before .before .before .before .before .before .before .before .before .before .before .before .before .args .regs .now))) (c .before .before .before .before .before .before .before .before .before .before .before .before .before .before .before .args .memory .now) (c .before .before .before .before .before .before .before .before .before .before .before .before .before .before .before .args .pages .now) (c .before .before .before .before .before .before .before .before .before .before .before .before .before .before .before .args .n) _ _ (c .before .before .before .before .before .before .before .before .before .before .before .before .before .before .before .pre .2) (c .before .before .before .before .before .before .before .before .before .before .before .before .before .before .before .pre .3) _ _ (c .before .before .before .before .before .before .before .few-reads .ensures .2 (no-block _ (sym (c .before .before .before .before .before .before .before .before .before .before .is-block .ensures) ∙ c .before .before .before .before .before .before .before .before .before .if1 .left) .0) (no-block _ (sym (c .before .before .before .before .before .before .before .before .before .before .is-block .ensures) ∙ c .before .before .before .before .before .before .before .before .before .if1 .left) .1) (no-block _ (sym (c .before .before .before .before .before .before .before .before .before .before .is-block .ensures) ∙ c .before .before .before .before .before .before .before .before .before .if1 .left) .2)) (c .before .before .before .before .before .before .before .few-reads .ensures .0) (c .before .before .before .before .gather .ensures) (c .before .before .before .before .before .before .before .before .before .before .before .before .before .before .before .args .ports .now) (c .before .before .before .if2 .left), ← c .before .advance .ensures) (failed (later (c .before .before .before .before .before .before .before .before .before .before .before .before .before .before .before .args .lag) (joined (c .before .before .before .before .before .before .before .before .before .before .before .before .before .before .before .args .core) (c .before .before .before .before .before .before .before .before .before .before .before .before .before .before .before .args .regs .now))) _ (c .before .before .before .before .before .before .before .before .before .before .before .before .before .before .before .args .memory .now) (c .before .before .before .before .before .before .before .before .before .before .before .before .before .before .before .args .pages .now) (c .before .before .before .before .before .before .before .before .before .before .before .before .before .before .before .args .ports .now) _ _ (c .deny .ensures .1 (c .before .before .before .before .before .before .before .before .before .before .before .before .before .before .before .args .regs .now))), λ h. absurd (false≢true (sym (c .deny .ensures .0) ∙ h)))
+returns-3 c = (rw (c .deny .ensures .0, ← carried-denied (later (c .before .before .before .before .before .before .before .before .before .before .before .before .before .before .args .lag) (joined (c .before .before .before .before .before .before .before .before .before .before .before .before .before .before .args .core) (c .before .before .before .before .before .before .before .before .before .before .before .before .before .before .args .regs .now))) (c .before .before .before .before .before .before .before .before .before .before .before .before .before .before .args .memory .now) (c .before .before .before .before .before .before .before .before .before .before .before .before .before .before .args .pages .now) (c .before .before .before .before .before .before .before .before .before .before .before .before .before .before .args .n) _ _ (c .before .before .before .before .before .before .before .before .before .before .before .before .before .before .pre .2) (c .before .before .before .before .before .before .before .before .before .before .before .before .before .before .pre .3) _ _ _ (reads-by (c .before .before .before .before .before .before .before .before .before .before .before .before .before .before .args .regs .now) (c .before .before .before .before .before .before .before .before .before .before .before .before .before .before .args .n) (c .before .before .before .before .before .before .before .before .before .before .before .before .before .before .args .need) _ _ (c .before .before .before .before .before .before .before .before .before .before .before .before .before .before .pre .6) (off-block (c .before .before .before .before .before .before .before .before .before .before .before .before .before .before .args .n .form) (c .before .before .before .before .before .before .before .before .before .before .before .before .before .before .args .need) (c .before .before .before .before .before .before .before .before .before .before .before .before .before .before .pre .6) (c .before .before .before .before .before .before .before .before .before .before .if1 .left)) (c .before .before .before .before .before .before .before .before .read-start .ensures) (c .before .before .before .before .before .read-count .ensures .0)) (c .before .before .before .before .gather .ensures) (c .before .before .before .before .before .before .before .before .before .before .before .before .before .before .args .ports .now) (c .before .before .before .if2 .left), ← c .before .advance .ensures) (failed (later (c .before .before .before .before .before .before .before .before .before .before .before .before .before .before .args .lag) (joined (c .before .before .before .before .before .before .before .before .before .before .before .before .before .before .args .core) (c .before .before .before .before .before .before .before .before .before .before .before .before .before .before .args .regs .now))) _ (c .before .before .before .before .before .before .before .before .before .before .before .before .before .before .args .memory .now) (c .before .before .before .before .before .before .before .before .before .before .before .before .before .before .args .pages .now) (c .before .before .before .before .before .before .before .before .before .before .before .before .before .before .args .ports .now) _ _ (c .deny .ensures .1 (c .before .before .before .before .before .before .before .before .before .before .before .before .before .before .args .regs .now))), λ h. absurd (false≢true (sym (c .deny .ensures .0) ∙ h)))
 
 pub carry-spec : {M : Type 1} → statement M
 carry-spec =
     tie.close
     (tie.spec
-    is-block-requires
     carry-block-requires
     same-length
     same-length-2
     returns
-    few-reads-requires
+    read-start-requires
+    read-count-requires
     gather-requires
     proceed-requires
     same-length-3

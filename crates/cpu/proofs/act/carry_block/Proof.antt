@@ -32,7 +32,7 @@ enum-told : tie.Need-enum-told
 enum-told c = search needs
 
 block-requires : tie.Need-block-requires
-block-requires c κs = (c .before .before .before .before .before .before .before .before .before .before .before .pre .0, c .before .before .before .before .before .before .before .before .before .before .before .pre .1)
+block-requires c κs = (c .before .before .before .before .before .before .before .before .before .before .before .pre .0, c .before .before .before .before .before .before .before .before .before .before .before .pre .1, c .before .before .before .before .before .before .before .reads .ensures .0, c .before .before .before .before .before .before .before .reads .ensures .1)
 
 weighed-requires : tie.Need-weighed-requires
 weighed-requires c κs = calm-after (c .before .before .before .before .before .before .before .before .before .before .before .before .before .before .args .lag) (c .before .before .before .before .before .before .before .before .before .before .before .before .before .before .args .core) _ (c .before .before .before .before .before .before .before .before .before .before .before .before .before .before .args .regs .now) _ _ (c .before .before .block .ensures .state-is) (c .before .before .before .before .before .before .before .before .before .before .before .before .before .before .pre .2)

@@ -11,6 +11,7 @@ use Rattle.cpu.proofs.run.run.Statement.{statement}
 use Rattle.cpu.proofs.run.run.Tie as tie
 use Rattle.cpu.proofs.run.run.Reads as reads
 use Rattle.cpu.proofs.run.run.Lts as lts
+use Rattle.access.proofs.needs.table.Reads as needs-table-reads
 use Rattle.cpu.proofs.run.ask.Reads as ask-reads
 use Rattle.cpu.proofs.run.join.Reads as join-reads
 use Rattle.cpu.proofs.run.number.Reads as number-reads
@@ -27,11 +28,14 @@ number-requires c κs = search needs
 table-requires : tie.Need-table-requires
 table-requires c κs = search needs
 
+table-requires-2 : tie.Need-table-requires-2
+table-requires-2 c κs = search needs
+
 part-requires : tie.Need-part-requires
 part-requires c κs = search needs
 
 run-steps-requires : tie.Need-run-steps-requires
-run-steps-requires c κs = (admitted _ _ _ _ _ (sym (c .before .before .before .before .before .before .before .before .before .number .ensures ∙ ap numberOf (c .before .before .before .before .before .before .before .before .before .before .ask .ensures)) ∙ c .before .before .before .before .before .before .before .before .if1 .taken) .0, admitted _ _ _ _ _ (sym (c .before .before .before .before .before .before .before .before .before .number .ensures ∙ ap numberOf (c .before .before .before .before .before .before .before .before .before .before .ask .ensures)) ∙ c .before .before .before .before .before .before .before .before .if1 .taken) .1, c .before .before .before .before .before .before .before .table .ensures)
+run-steps-requires c κs = (admitted _ _ _ _ _ (sym (c .before .before .before .before .before .before .before .before .before .before .before .number .ensures ∙ ap numberOf (c .before .before .before .before .before .before .before .before .before .before .before .before .ask .ensures)) ∙ c .before .before .before .before .before .before .before .before .before .before .if1 .taken) .0, admitted _ _ _ _ _ (sym (c .before .before .before .before .before .before .before .before .before .before .before .number .ensures ∙ ap numberOf (c .before .before .before .before .before .before .before .before .before .before .before .before .ask .ensures)) ∙ c .before .before .before .before .before .before .before .before .before .before .if1 .taken) .1, c .before .before .before .before .before .before .before .before .before .table .ensures, c .before .before .before .before .before .before .before .before .table2 .ensures)
 
 join-requires : tie.Need-join-requires
 join-requires c κs = search needs
@@ -47,7 +51,7 @@ same-length-3 c = search needs
 
 returns : tie.Need-returns
 unfolding answerOf
-returns c = (c .before .before .before .before .before .before .before .before .before .before .before .before .before .before .before .before .before .before .ask .ensures, rw (spent-left mil1750 (machine (c .before .before .before .before .before .before .before .before .before .before .before .before .before .before .before .before .before .before .before .before .before .before .args .state) (c .before .before .before .before .before .before .before .before .before .before .before .before .before .before .before .before .before .before .before .before .before .before .args .memory .now) (c .before .before .before .before .before .before .before .before .before .before .before .before .before .before .before .before .before .before .before .before .before .before .args .pages .now) (c .before .before .before .before .before .before .before .before .before .before .before .before .before .before .before .before .before .before .before .before .before .before .args .ports .now)) (c .before .before .before .before .before .before .before .before .before .before .before .before .before .before .before .before .before .before .before .before .before .before .args .budget) (sym (c .before .before .before .before .before .before .before .before .before .before .before .before .before .before .before .before .before .number .ensures ∙ ap numberOf (c .before .before .before .before .before .before .before .before .before .before .before .before .before .before .before .before .before .before .ask .ensures)) ∙ c .before .before .before .before .before .before .before .before .before .before .before .before .before .before .before .before .if1 .taken), c .join .ensures, ← c .before .before .before .before .before .before .before .before .before .before .before .before .before .part .ensures) (c .before .before .before .before .before .before .before .run-steps .ensures))
+returns c = (c .before .before .before .before .before .before .before .before .before .before .before .before .before .before .before .before .before .before .before .before .ask .ensures, rw (spent-left mil1750 (machine (c .before .before .before .before .before .before .before .before .before .before .before .before .before .before .before .before .before .before .before .before .before .before .before .before .args .state) (c .before .before .before .before .before .before .before .before .before .before .before .before .before .before .before .before .before .before .before .before .before .before .before .before .args .memory .now) (c .before .before .before .before .before .before .before .before .before .before .before .before .before .before .before .before .before .before .before .before .before .before .before .before .args .pages .now) (c .before .before .before .before .before .before .before .before .before .before .before .before .before .before .before .before .before .before .before .before .before .before .before .before .args .ports .now)) (c .before .before .before .before .before .before .before .before .before .before .before .before .before .before .before .before .before .before .before .before .before .before .before .before .args .budget) (sym (c .before .before .before .before .before .before .before .before .before .before .before .before .before .before .before .before .before .before .before .number .ensures ∙ ap numberOf (c .before .before .before .before .before .before .before .before .before .before .before .before .before .before .before .before .before .before .before .before .ask .ensures)) ∙ c .before .before .before .before .before .before .before .before .before .before .before .before .before .before .before .before .before .before .if1 .taken), c .join .ensures, ← c .before .before .before .before .before .before .before .before .before .before .before .before .before .before .part .ensures) (c .before .before .before .before .before .before .before .run-steps .ensures))
 
 returns-2 : tie.Need-returns-2
 unfolding answerOf
@@ -60,6 +64,7 @@ run-spec =
     ask-requires
     number-requires
     table-requires
+    table-requires-2
     part-requires
     run-steps-requires
     join-requires

@@ -20,10 +20,10 @@ use Rattle.interrupt.proofs.fields.key_of.Reads as key-of-reads
 use Rattle.interrupt.proofs.pending.choose.Reads as choose-reads
 
 abbrev Inv-loop : tie.InvT-loop
-Inv-loop regs₀ memory₀ pages₀ ports₀ table n t₀ left₀ regs memory pages ports t left = (length memory ≡ length memory₀) × (length pages ≡ length pages₀) × (length ports ≡ length ports₀) × (steps mil1750 left₀ (machine (joined t₀ regs₀) memory₀ pages₀ ports₀) ≡ steps mil1750 left (machine (joined t regs) memory pages ports))
+Inv-loop regs₀ memory₀ pages₀ ports₀ table needs n t₀ due₀ regs memory pages ports t due = (length memory ≡ length memory₀) × (length pages ≡ length pages₀) × (length ports ≡ length ports₀) × (steps mil1750 due₀ (machine (joined t₀ regs₀) memory₀ pages₀ ports₀) ≡ steps mil1750 due (machine (joined t regs) memory pages ports))
 
 abbrev μ-loop : tie.MeasureT-loop
-μ-loop regs₀ memory₀ pages₀ ports₀ table n t₀ left₀ regs memory pages ports t left = left
+μ-loop regs₀ memory₀ pages₀ ports₀ table needs n t₀ due₀ regs memory pages ports t due = due
 
 loop-holds : tie.Need-loop-holds Inv-loop μ-loop
 loop-holds c = (refl, refl, refl, refl)
@@ -34,14 +34,14 @@ choose-requires c κs = omega arith
 interrupted-requires : tie.Need-interrupted-requires Inv-loop μ-loop
 interrupted-requires c κs = (omega arith, c .before .before .if1 .taken)
 
-sub-left : tie.Need-sub-left Inv-loop μ-loop
-sub-left c = omega arith
+sub-due : tie.Need-sub-due Inv-loop μ-loop
+sub-due c = omega arith
 
 loop-less : tie.Need-loop-less Inv-loop μ-loop
 loop-less c = omega arith
 
 loop-again : tie.Need-loop-again Inv-loop μ-loop
-loop-again c = let l = c .before .before .before .before .before .before .before .before .loop in (c .before .before .interrupted .kept .1 .0 ∙ l .inv .0, l .inv .1, l .inv .2, rw (l .inv .3, steps-step mil1750 (l .left) (machine (joined (l .t) (l .regs)) (l .memory) (l .pages) (l .ports)) (c .before .before .before .before .before .before .before .loop-test .taken), ← became-machine (c .before .before .interrupted .ensures (l .regs) (l .ports) (c .before .before .before .before .before .before .choose .ensures (joined (c .before .before .before .before .before .before .before .before .loop .t) (c .before .before .before .before .before .before .before .before .loop .regs)) refl refl refl refl))) refl)
+loop-again c = let l = c .before .before .before .before .before .before .before .before .loop in (c .before .before .interrupted .kept .1 .0 ∙ l .inv .0, l .inv .1, l .inv .2, rw (l .inv .3, steps-step mil1750 (l .due) (machine (joined (l .t) (l .regs)) (l .memory) (l .pages) (l .ports)) (c .before .before .before .before .before .before .before .loop-test .taken), ← became-machine (c .before .before .interrupted .ensures (l .regs) (l .ports) (c .before .before .before .before .before .before .choose .ensures (joined (c .before .before .before .before .before .before .before .before .loop .t) (c .before .before .before .before .before .before .before .before .loop .regs)) refl refl refl refl))) refl)
 
 key-of-requires : tie.Need-key-of-requires Inv-loop μ-loop
 key-of-requires c κs = omega arith
@@ -50,7 +50,7 @@ group-of-requires : tie.Need-group-of-requires Inv-loop μ-loop
 group-of-requires c κs = omega arith
 
 go-on-requires : tie.Need-go-on-requires Inv-loop μ-loop
-go-on-requires c κs = (omega arith, omega arith, c .before .before .before .before .before .before .before .before .before .before .before .before .before .pre .2, c .before .before .before .before .before .key-of .ensures .0, c .before .before .before .before .group-of .ensures .0, c .before .before .before .before .group-of .ensures .1, c .before .before .before .before .before .before .before .before .loop-test .taken, rw (← (c .before .before .before .before .before .before .before .choose .ensures (joined (c .before .before .before .before .before .before .before .before .before .loop .t) (c .before .before .before .before .before .before .before .before .before .loop .regs)) refl refl refl refl)) (c .before .before .before .before .before .before .if1 .left))
+go-on-requires c κs = (omega arith, omega arith, c .before .before .before .before .before .before .before .before .before .before .before .before .before .pre .2, c .before .before .before .before .before .key-of .ensures .0, c .before .before .before .before .group-of .ensures .0, c .before .before .before .before .group-of .ensures .1, c .before .before .before .before .before .before .before .before .loop-test .taken, rw (← (c .before .before .before .before .before .before .before .choose .ensures (joined (c .before .before .before .before .before .before .before .before .before .loop .t) (c .before .before .before .before .before .before .before .before .before .loop .regs)) refl refl refl refl)) (c .before .before .before .before .before .before .if1 .left), c .before .before .before .before .before .before .before .before .before .before .before .before .before .pre .3)
 
 loop-less-2 : tie.Need-loop-less-2 Inv-loop μ-loop
 loop-less-2 c = omega arith
@@ -68,7 +68,7 @@ same-length-3 : tie.Need-same-length-3 Inv-loop μ-loop
 same-length-3 c = c .before .loop .inv .2
 
 returns : tie.Need-returns Inv-loop μ-loop
-returns c = let l = c .before .loop in machine-became (sym (l .inv .3 ∙ steps-none mil1750 (l .left) (machine (joined (l .t) (l .regs)) (l .memory) (l .pages) (l .ports)) (c .loop-test .left)))
+returns c = let l = c .before .loop in machine-became (sym (l .inv .3 ∙ steps-none mil1750 (l .due) (machine (joined (l .t) (l .regs)) (l .memory) (l .pages) (l .ports)) (c .loop-test .left)))
 
 pub run-steps-spec : {M : Type 1} → statement M
 run-steps-spec =
@@ -79,7 +79,7 @@ run-steps-spec =
     loop-holds
     choose-requires
     interrupted-requires
-    sub-left
+    sub-due
     loop-less
     loop-again
     key-of-requires
