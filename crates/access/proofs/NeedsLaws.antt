@@ -43,11 +43,11 @@ parts k h =
     (eqb-true _ _ (q .0), eqb-true _ _ (q .1), eqb-true _ _ (r .0), eqb-true _ _ (r .1))
 
 -- a number that is 1 or 0 by a test tells the test
-told : (b : Bool) (m : ℕ) → m ≡ cond b 1 0 → m ≡ 1 → b ≡ true
+pub told : (b : Bool) (m : ℕ) → m ≡ cond b 1 0 → m ≡ 1 → b ≡ true
 told true m e h = refl
 told false m e h = absurd (omega arith)
 
-untold : (b : Bool) (m : ℕ) → m ≡ cond b 1 0 → (m ≡ 1 → ⊥) → b ≡ false
+pub untold : (b : Bool) (m : ℕ) → m ≡ cond b 1 0 → (m ≡ 1 → ⊥) → b ≡ false
 untold true m e h = absurd (h e)
 untold false m e h = refl
 
@@ -67,6 +67,15 @@ others k h = (apart k 40 h refl, apart k 44 h refl, apart k 47 h refl, apart k 5
 -- a span upwards, by its start and its count
 spanned : (s : Span) (a k start count : ℕ) → s ≡ spanFrom a k → start ≡ s .start → count ≡ s .count → spanFrom start count ≡ s
 spanned s a k start count e i j = rw (i, j, e) refl
+
+-- one that is a word at a where the mark is 1, else k words at b
+marked : (s : Span) (mark a b k : ℕ) → (mark ≡ 1 → s ≡ spanFrom a 1) → ((mark ≡ 1 → ⊥) → s ≡ spanFrom b k)
+    → (start count : ℕ) → start ≡ s .start → count ≡ s .count → spanFrom start count ≡ s
+marked s mark a b k one other start count i j = by (eqb mark 1) refl
+  where
+    by : (t : Bool) → eqb mark 1 ≡ t → spanFrom start count ≡ s
+    by true t = spanned s a 1 start count (one (eqb-true _ _ t)) i j
+    by false t = spanned s b k start count (other (eqb-false _ _ t)) i j
 
 -- the operation of n is not on blocks
 module _ (regs : List ℕ) (n : Instruction) (need : ℕ) (e : need ≡ needOf (operationOf (n .form))) (plain : need / 64 % 2 ≡ 0) where
@@ -104,15 +113,7 @@ module _ (regs : List ℕ) (n : Instruction) (need : ℕ) (e : need ≡ needOf (
 
   -- by their start and their count
   pub reads-span : (start count : ℕ) → start ≡ readsOf regs n .start → count ≡ readsOf regs n .count → spanFrom start count ≡ readsOf regs n
-  reads-span start count i j = by (eqb (need / 16 % 2) 1) refl
-    where
-      by : (b : Bool) → eqb (need / 16 % 2) 1 ≡ b → spanFrom start count ≡ readsOf regs n
-      by true t = spanned _ _ _ start count (register-read (eqb-true _ _ t)) i j
-      by false t = spanned _ _ _ start count (operand-read (eqb-false _ _ t)) i j
+  reads-span = marked (readsOf regs n) (need / 16 % 2) _ _ _ register-read operand-read
 
   pub writes-span : (start count : ℕ) → start ≡ writesOf regs n .start → count ≡ writesOf regs n .count → spanFrom start count ≡ writesOf regs n
-  writes-span start count i j = by (eqb (need / 32 % 2) 1) refl
-    where
-      by : (b : Bool) → eqb (need / 32 % 2) 1 ≡ b → spanFrom start count ≡ writesOf regs n
-      by true t = spanned _ _ _ start count (register-written (eqb-true _ _ t)) i j
-      by false t = spanned _ _ _ start count (operand-written (eqb-false _ _ t)) i j
+  writes-span = marked (writesOf regs n) (need / 32 % 2) _ _ _ register-written operand-written

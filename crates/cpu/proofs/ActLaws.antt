@@ -34,7 +34,7 @@ use Rattle.isa.specs.Execute.{ordinary, executed}
 use Rattle.isa.specs.Commands.{supervisedBy}
 use Rattle.isa.specs.Mil1750.{classOf, contextOf, mil1750}
 use Rattle.access.specs.Needs.{exceptions, needOf}
-use Rattle.access.proofs.NeedsLaws.{reads-span, writes-span}
+use Rattle.access.proofs.NeedsLaws.{told, untold, reads-span, writes-span}
 use Rattle.command.specs.declared.Governed.{Governed}
 use Rattle.command.specs.declared.Governed.the-variants.{Done, Refused}
 use Rattle.command.specs.Outcome.{governed, Kept}
@@ -215,18 +215,10 @@ module _ (form need : ℕ) (e : need ≡ needOf (operationOf form)) where
   weight = ap (λ (m : ℕ). m / 64 % 2) e ∙ block-told (operationOf form) (omega arith)
 
   pub on-block : need / 64 % 2 ≡ 1 → isBlock (operationOf form) ≡ true
-  on-block h = by (isBlock (operationOf form)) weight
-    where
-      by : (b : Bool) → need / 64 % 2 ≡ cond b 1 0 → b ≡ true
-      by true w = refl
-      by false w = absurd (omega (arith, w, h))
+  on-block = told (isBlock (operationOf form)) (need / 64 % 2) weight
 
   pub off-block : (need / 64 % 2 ≡ 1 → ⊥) → isBlock (operationOf form) ≡ false
-  off-block h = by (isBlock (operationOf form)) weight
-    where
-      by : (b : Bool) → need / 64 % 2 ≡ cond b 1 0 → b ≡ false
-      by true w = absurd (h w)
-      by false w = refl
+  off-block = untold (isBlock (operationOf form)) (need / 64 % 2) weight
 
   weightless : isBlock (operationOf form) ≡ false → need / 64 % 2 ≡ 0
   weightless h = weight ∙ ap (λ (b : Bool). cond b 1 0) h
