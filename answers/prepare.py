@@ -9,7 +9,7 @@ STAGES = 'Rattle.machine.specs.Instructions.'
 ISA = 'Rattle.isa.specs.Mil1750.'
 FORMS = 'Rattle.decode.specs.Forms.'
 LAWS = 'Rattle.prepare.proofs.PrepareLaws.{granted-second}'
-NEXT = 'Rattle.prepare.proofs.PrepareLaws.{lookup-next}'
+NEXT = 'Rattle.page.proofs.NearLaws.{lookup-next}'
 INSIDE = 'Rattle.page.proofs.ReachLaws.{located-inside}'
 
 

@@ -21,20 +21,20 @@ use Rattle.machine.specs.State.{csOf}
 use Rattle.isa.specs.Effects.{Context, following, effect, nothing, three}
 use Rattle.isa.specs.Blocks.{rearranged, poppedFrom, movedWord, pushedWord, pushedFrom}
 
--- ---- LM: n words are left, the first has the number i
+-- ---- LM: n words are left, the first has the number q and goes to register i
 
-pub loaded-none : (regs : List ℕ) (i n : ℕ) (buf : List ℕ) → n ≤ 0 → withRegisters regs i (take n (drop i buf)) ≡ regs
+pub loaded-none : (regs : List ℕ) (i q n : ℕ) (ws : List ℕ) → n ≤ 0 → withRegisters regs i (take n (drop q ws)) ≡ regs
 unfolding withRegisters
-loaded-none regs i zero buf h = refl
-loaded-none regs i (suc n) buf h = absurd (omega arith)
+loaded-none regs i q zero ws h = refl
+loaded-none regs i q (suc n) ws h = absurd (omega arith)
 
-pub loaded-step : (regs : List ℕ) (i n : ℕ) (buf : List ℕ) → 0 < n → i < length buf
-    → withRegisters regs i (take n (drop i buf)) ≡ withRegisters (withRegister regs i (getD buf i 0)) (i + 1) (take (n - 1) (drop (i + 1) buf))
+pub loaded-step : (regs : List ℕ) (i q n : ℕ) (ws : List ℕ) → 0 < n → q < length ws → (r : ℕ) → r ≡ q + 1
+    → withRegisters regs i (take n (drop q ws)) ≡ withRegisters (withRegister regs i (getD ws q 0)) (i + 1) (take (n - 1) (drop r ws))
 unfolding withRegisters
-loaded-step regs i zero buf h l = absurd (omega arith)
-loaded-step regs i (suc n) buf h l =
-    let e : suc i ≡ i + 1 = omega arith in
-    rw (drop-cons buf i 0 l, sub-one) (ap (λ k. withRegisters (withRegister regs i (getD buf i 0)) (i + 1) (take n (drop k buf))) e)
+loaded-step regs i q zero ws h l r e = absurd (omega arith)
+loaded-step regs i q (suc n) ws h l r e =
+    let f : suc q ≡ r = omega arith in
+    rw (drop-cons ws q 0 l, sub-one) (ap (λ k. withRegisters (withRegister regs i (getD ws q 0)) (i + 1) (take n (drop k ws))) f)
 
 -- ---- POPM: n words are left, the first has the number i
 
@@ -92,7 +92,7 @@ module _ (key group : ℕ) (g : List ℕ) (size : ℕ) (p : Span) (buf ws : List
   unfolding written writtenFrom
   unwritten m e = rw e refl
 
-none-chosen : (t : Bool) → _≡_ {A = ℕ} (cond t 0 0) 0
+pub none-chosen : (t : Bool) → _≡_ {A = ℕ} (cond t 0 0) 0
 none-chosen true = refl
 none-chosen false = refl
 

@@ -1,2 +1,3 @@
 -- The definitions of the operations on blocks' code.
 pub mod Operation
+pub mod Rows

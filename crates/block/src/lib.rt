@@ -15,8 +15,10 @@ use machine::Instruction;
 use page::Span;
 use page::read::read_span;
 
+pub mod here;
 pub mod operation;
 pub mod registers;
+mod rows;
 pub mod stores;
 
 // One of these: its words are read from the span, then stored, then the registers are set. Its caller has found it to be one, and the span.

@@ -2,13 +2,13 @@
 ghost use mathlib.Core.Path.{_≡_};
 ghost use mathlib.Core.Bool.{true};
 ghost use mathlib.Core.List.{List};
-ghost use Prim.Native.Nat.{ℕ, _+_};
+ghost use Prim.Native.Nat.{ℕ, _+_, _≤_};
 ghost use lib.Dec.{eqb};
-ghost use lib.ListN.{length};
+ghost use lib.ListN.{length, drop};
 ghost use Rattle.decode.specs.Forms.{operationOf};
 ghost use Rattle.machine.specs.State.{csOf, joined};
 ghost use Rattle.machine.specs.Step.{affected};
-ghost use Rattle.isa.specs.Fields.{fieldA, register};
+ghost use Rattle.isa.specs.Fields.{fieldA, fieldB, register, registersFrom};
 ghost use Rattle.isa.specs.Effects.{following};
 ghost use Rattle.isa.specs.Blocks.{rearranged, loadedAll, poppedAll, movedWord, pushedAll, exchangedWords};
 ghost use Rattle.isa.specs.Mil1750.{contextOf};
@@ -47,32 +47,45 @@ fn settle(core: Core, ic: u16, cs: u16) -> Core
 }
 
 // On to the next instruction; CS is kept.
-fn proceed(core: Core, n: Instruction) -> Core
+pub fn proceed(core: Core, n: Instruction) -> Core
     ensures { λ r. ⌜ ((regs after ws : List ℕ) → joined r after
         ≡ affected (joined core regs) (rearranged (contextOf (joined core regs)) after (following (contextOf (joined core regs)) n) (csOf (core .sw)) ws)) ⌝ }
 {
     settle(core, effect::following(core.ic, n.form), cs_of(core.sw))
 }
 
-// LM (5.40).
-fn load_multiple(core: Core, regs: &mut [u16; 16], n: Instruction, buf: &[u16; 16]) -> Core
-    requires { ⌜ length (now buf) ≡ 16 ⌝ }
-    ensures { λ r. ⌜ joined r (now (regs .exit)) ≡ affected (joined core (now (regs .entry))) (loadedAll (contextOf (joined core (now (regs .entry)))) n (now (buf .entry))) ⌝ }
+// LM (5.40) of the words from word number p on, which there are.
+pub fn load_multiple(
+    core: Core,
+    regs: &mut [u16; 16],
+    n: Instruction,
+    words: &[u16],
+    p: usize,
+) -> Core
+    requires { ⌜ p + (fieldA (n .first) + 1) ≤ length (now words) ⌝ }
+    ensures { λ r. ⌜ joined r (now (regs .exit)) ≡ affected (joined core (now (regs .entry))) (loadedAll (contextOf (joined core (now (regs .entry)))) n (drop p (now (words .entry)))) ⌝ }
 {
-    load_all(regs, n, buf);
+    load_all(regs, n, words, p);
     proceed(core, n)
 }
 
-// POPM (5.44).
-fn pop_multiple(core: Core, regs: &mut [u16; 16], n: Instruction, buf: &[u16; 16]) -> Core
-    ensures { λ r. ⌜ joined r (now (regs .exit)) ≡ affected (joined core (now (regs .entry))) (poppedAll (contextOf (joined core (now (regs .entry)))) n (now (buf .entry))) ⌝ }
+// POPM (5.44) of the words from word number p on, which there are.
+pub fn pop_multiple(
+    core: Core,
+    regs: &mut [u16; 16],
+    n: Instruction,
+    words: &[u16],
+    p: usize,
+) -> Core
+    requires { ⌜ p + registersFrom (fieldA (n .first)) (fieldB (n .first)) ≤ length (now words) ⌝ }
+    ensures { λ r. ⌜ joined r (now (regs .exit)) ≡ affected (joined core (now (regs .entry))) (poppedAll (contextOf (joined core (now (regs .entry)))) n (drop p (now (words .entry)))) ⌝ }
 {
-    pop_all(regs, n, buf);
+    pop_all(regs, n, words, p);
     proceed(core, n)
 }
 
 // MOV (5.47): IC stays while the count is then not zero.
-fn move_word(core: Core, regs: &mut [u16; 16], n: Instruction) -> Core
+pub fn move_word(core: Core, regs: &mut [u16; 16], n: Instruction) -> Core
     ensures { λ r. ⌜ ((x : ℕ) → joined r (now (regs .exit)) ≡ affected (joined core (now (regs .entry)))
         (movedWord (contextOf (joined core (now (regs .entry)))) n x (eqb (register (now (regs .entry)) (fieldA (n .first) + 1)) 0))) ⌝ }
 {
@@ -88,7 +101,7 @@ fn move_word(core: Core, regs: &mut [u16; 16], n: Instruction) -> Core
 }
 
 // PSHM (5.54).
-fn push_multiple(core: Core, regs: &mut [u16; 16], n: Instruction) -> Core
+pub fn push_multiple(core: Core, regs: &mut [u16; 16], n: Instruction) -> Core
     ensures { λ r. ⌜ joined r (now (regs .exit)) ≡ affected (joined core (now (regs .entry))) (pushedAll (contextOf (joined core (now (regs .entry)))) n) ⌝ }
 {
     push_stack(regs, n);
@@ -110,8 +123,8 @@ pub fn rearrange(core: Core, regs: &mut [u16; 16], n: Instruction, buf: &[u16; 1
 {
     let operation = n.form % 256;
     match operation {
-        40 => load_multiple(core, regs, n, buf),
-        44 => pop_multiple(core, regs, n, buf),
+        40 => load_multiple(core, regs, n, buf, 0),
+        44 => pop_multiple(core, regs, n, buf, 0),
         47 => move_word(core, regs, n),
         50 => proceed(core, n),
         54 => push_multiple(core, regs, n),

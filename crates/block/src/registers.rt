@@ -1,7 +1,7 @@
 // What the operations on blocks do to the registers.
 ghost use mathlib.Core.Path.{_≡_};
-ghost use Prim.Native.Nat.{_+_, _-_, _<_};
-ghost use lib.ListN.{length, take};
+ghost use Prim.Native.Nat.{_+_, _-_, _≤_, _<_};
+ghost use lib.ListN.{length, take, drop};
 ghost use Rattle.word.specs.Status.{status};
 ghost use Rattle.page.specs.Spans.{wrapped};
 ghost use Rattle.isa.specs.Fields.{fieldA, fieldB, register, withRegister, withRegisters, registersFrom};
@@ -16,49 +16,50 @@ use machine::Instruction;
 use std::num::wrapping_add_u16;
 use word::status::status16;
 
-// LM: R0 to RN get the words of a buffer (5.40). A buffer has sixteen words.
-pub fn load_all(regs: &mut [u16; 16], n: Instruction, buf: &[u16; 16])
-    requires { ⌜ length (now buf) ≡ 16 ⌝ }
-    ensures { λ r. ⌜ now (regs .exit) ≡ withRegisters (now (regs .entry)) 0 (take (fieldA (n .first) + 1) (now (buf .entry))) ⌝ }
+// LM: R0 to RN get the words from word number p on (5.40), which there are.
+pub fn load_all(regs: &mut [u16; 16], n: Instruction, words: &[u16], p: usize)
+    requires { ⌜ p + (fieldA (n .first) + 1) ≤ length (now words) ⌝ }
+    ensures { λ r. ⌜ now (regs .exit) ≡ withRegisters (now (regs .entry)) 0 (take (fieldA (n .first) + 1) (drop p (now (words .entry)))) ⌝ }
 {
     let mut i: u16 = 0;
     let mut left = field_a(n.first) + 1;
     while 0 < left {
-        let number = i as usize;
-        put(regs, i, buf[number]);
+        let number = p + i as usize;
+        put(regs, i, words[number]);
         i += 1;
         left -= 1;
     }
 }
 
-// POPM: k words of a buffer go to the registers from a on, but none to R15 (5.44). a is a field of four bits, k at most 16.
-pub fn pop_words(regs: &mut [u16; 16], a: u16, k: u16, buf: &[u16; 16])
-    requires { ⌜ (a < 16) × (k < 17) ⌝ }
-    ensures { λ r. ⌜ now (regs .exit) ≡ poppedFrom a (now (buf .entry)) k 0 (now (regs .entry)) ⌝ }
+// POPM: k words from word number p on, which there are, go to the registers from a on, but none to R15 (5.44). a is a field of four bits, k at most 16.
+pub fn pop_words(regs: &mut [u16; 16], a: u16, k: u16, words: &[u16], p: usize)
+    requires { ⌜ (a < 16) × (k < 17) × (p + k ≤ length (now words)) ⌝ }
+    ensures { λ r. ⌜ now (regs .exit) ≡ poppedFrom a (drop p (now (words .entry))) k 0 (now (regs .entry)) ⌝ }
 {
     let mut i: u16 = 0;
     let mut left = k;
     while 0 < left {
         let at = a + i;
-        let number = i as usize;
+        let number = p + i as usize;
         i += 1;
         left -= 1;
         if at % 16 != 15 {
-            put(regs, at, buf[number]);
+            put(regs, at, words[number]);
         }
     }
 }
 
-// POPM: the registers get the words of a buffer, and R15 rises by their number (5.44).
-pub fn pop_all(regs: &mut [u16; 16], n: Instruction, buf: &[u16; 16])
+// POPM: the registers get the words from word number p on, which there are, and R15 rises by their number (5.44).
+pub fn pop_all(regs: &mut [u16; 16], n: Instruction, words: &[u16], p: usize)
+    requires { ⌜ p + registersFrom (fieldA (n .first)) (fieldB (n .first)) ≤ length (now words) ⌝ }
     ensures { λ r. ⌜ now (regs .exit) ≡ withRegister
-        (poppedFrom (fieldA (n .first)) (now (buf .entry)) (registersFrom (fieldA (n .first)) (fieldB (n .first))) 0 (now (regs .entry))) 15
+        (poppedFrom (fieldA (n .first)) (drop p (now (words .entry))) (registersFrom (fieldA (n .first)) (fieldB (n .first))) 0 (now (regs .entry))) 15
         (wrapped (register (now (regs .entry)) 15 + registersFrom (fieldA (n .first)) (fieldB (n .first)))) ⌝ }
 {
     let a = field_a(n.first);
     let k = registers_from(a, field_b(n.first));
     let top = wrapping_add_u16(get(regs, 15), k);
-    pop_words(regs, a, k, buf);
+    pop_words(regs, a, k, words, p);
     put(regs, 15, top);
 }
 

@@ -24,7 +24,7 @@ use page::write::write_span;
 use std::num::wrapping_add_u16;
 
 // Register j as PSHM stores it as word number i, which is at most 15.
-fn pushed_word(regs: &[u16; 16], j: u16, i: u16) -> u16
+pub fn pushed_word(regs: &[u16; 16], j: u16, i: u16) -> u16
     requires { ⌜ i < 16 ⌝ }
     ensures { λ r. ⌜ r ≡ pushedWord (now (regs .entry)) j i ⌝ }
 {

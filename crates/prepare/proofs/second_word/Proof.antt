@@ -6,7 +6,7 @@ use borrow.Author.Tests.{eq-eqb, ne-eqb}
 use borrow.Author.Tests.{lt-ltb, le-ltb}
 use native.Mathlib.Omega.{arith}
 use Rattle.page.proofs.ReachLaws.{located-inside}
-use Rattle.prepare.proofs.PrepareLaws.{lookup-next}
+use Rattle.page.proofs.NearLaws.{lookup-next}
 use Rattle.page.specs.Spans.{gotAt}
 use borrow.Author.Needs.{needs}
 use Rattle.prepare.proofs.second_word.Statement.{statement}

@@ -5,6 +5,10 @@ use Rattle.isa.specs.Mil1750.{contextOf}
 use borrow.Author.Needs.{needs}
 use Rattle.block.proofs.operation.load_multiple.Statement.{statement}
 use Rattle.block.proofs.operation.load_multiple.Tie as tie
+use Rattle.block.proofs.operation.load_multiple.Reads as reads
+use Rattle.block.proofs.operation.load_multiple.Lts as lts
+use Rattle.block.proofs.operation.proceed.Reads as proceed-reads
+use Rattle.block.proofs.registers.load_all.Reads as load-all-reads
 
 load-all-requires : tie.Need-load-all-requires
 load-all-requires c κs = search needs
@@ -17,9 +21,4 @@ unfolding loadedAll contextOf
 returns c = rw (← c .before .load-all .ensures) (c .proceed .ensures _ _ _)
 
 pub load-multiple-spec : {M : Type 1} → statement M
-load-multiple-spec =
-    tie.close
-    (tie.spec
-    load-all-requires
-    proceed-requires
-    returns)
+load-multiple-spec = tie.close (tie.spec load-all-requires proceed-requires returns)

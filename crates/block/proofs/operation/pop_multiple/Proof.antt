@@ -5,6 +5,10 @@ use Rattle.isa.specs.Mil1750.{contextOf}
 use borrow.Author.Needs.{needs}
 use Rattle.block.proofs.operation.pop_multiple.Statement.{statement}
 use Rattle.block.proofs.operation.pop_multiple.Tie as tie
+use Rattle.block.proofs.operation.pop_multiple.Reads as reads
+use Rattle.block.proofs.operation.pop_multiple.Lts as lts
+use Rattle.block.proofs.operation.proceed.Reads as proceed-reads
+use Rattle.block.proofs.registers.pop_all.Reads as pop-all-reads
 
 pop-all-requires : tie.Need-pop-all-requires
 pop-all-requires c κs = search needs
@@ -17,9 +21,4 @@ unfolding poppedAll contextOf
 returns c = rw (← c .before .pop-all .ensures) (c .proceed .ensures _ _ _)
 
 pub pop-multiple-spec : {M : Type 1} → statement M
-pop-multiple-spec =
-    tie.close
-    (tie.spec
-    pop-all-requires
-    proceed-requires
-    returns)
+pop-multiple-spec = tie.close (tie.spec pop-all-requires proceed-requires returns)

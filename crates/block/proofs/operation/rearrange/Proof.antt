@@ -1,5 +1,7 @@
 -- `block::operation::rearrange` meets its contract. Assumes nothing.
 use mathlib.Core.Path.{_≡_, refl, sym, ap, _∙_}
+use native.Mathlib.Omega.{arith}
+use Rattle.isa.specs.Fields.{fieldA, registersFrom}
 use mathlib.Core.List.{List, [], _∷_}
 use mathlib.Core.Bool.{true, false, false≢true}
 use Rattle.choice.proofs.SelectLaws.{otherwise}
@@ -11,12 +13,22 @@ use Rattle.isa.specs.Execute.{executed}
 use borrow.Author.Needs.{needs}
 use Rattle.block.proofs.operation.rearrange.Statement.{statement}
 use Rattle.block.proofs.operation.rearrange.Tie as tie
+use Rattle.block.proofs.operation.rearrange.Reads as reads
+use Rattle.block.proofs.operation.rearrange.Lts as lts
+use Rattle.block.proofs.operation.exchange_words.Reads as exchange-words-reads
+use Rattle.block.proofs.operation.load_multiple.Reads as load-multiple-reads
+use Rattle.block.proofs.operation.move_word.Reads as move-word-reads
+use Rattle.block.proofs.operation.pop_multiple.Reads as pop-multiple-reads
+use Rattle.block.proofs.operation.proceed.Reads as proceed-reads
+use Rattle.block.proofs.operation.push_multiple.Reads as push-multiple-reads
 
 load-multiple-requires : tie.Need-load-multiple-requires
-load-multiple-requires c κs = search needs
+unfolding fieldA
+load-multiple-requires c κs = omega (arith, c .before .before .before .before .pre .1)
 
 pop-multiple-requires : tie.Need-pop-multiple-requires
-pop-multiple-requires c κs = search needs
+unfolding registersFrom
+pop-multiple-requires c κs = omega (arith, c .before .before .before .before .pre .1)
 
 move-word-requires : tie.Need-move-word-requires
 move-word-requires c κs = search needs
@@ -32,11 +44,11 @@ exchange-words-requires c κs = search needs
 
 returns : tie.Need-returns
 unfolding executed
-returns c = rw (c .before .before .match .keys1) (c .load-multiple .ensures)
+returns c = rw (c .before .before .before .match .keys1) (c .load-multiple .ensures)
 
 returns-2 : tie.Need-returns-2
 unfolding executed
-returns-2 c = rw (c .before .before .match .keys2) (c .pop-multiple .ensures)
+returns-2 c = rw (c .before .before .before .match .keys2) (c .pop-multiple .ensures)
 
 returns-3 : tie.Need-returns-3
 unfolding executed contextOf

@@ -5,6 +5,15 @@ use Rattle.page.specs.Spans.{wrapped}
 use borrow.Author.Needs.{needs}
 use Rattle.block.proofs.registers.pop_all.Statement.{statement}
 use Rattle.block.proofs.registers.pop_all.Tie as tie
+use Rattle.block.proofs.registers.pop_all.Reads as reads
+use Rattle.block.proofs.registers.pop_all.Lts as lts
+use Rattle.access.proofs.fields.field_a.Reads as field-a-reads
+use Rattle.access.proofs.fields.field_b.Reads as field-b-reads
+use Rattle.access.proofs.fields.get.Reads as get-reads
+use Rattle.access.proofs.fields.put.Reads as put-reads
+use Rattle.access.proofs.fields.registers_from.Reads as registers-from-reads
+use Rattle.block.proofs.registers.pop_words.Reads as pop-words-reads
+use Rattle.std.proofs.num.wrapping_add_u16.Reads as wrapping-add-u16-reads
 
 field-a-requires : tie.Need-field-a-requires
 field-a-requires c κs = search needs
@@ -22,7 +31,7 @@ wrapping-add-u16-requires : tie.Need-wrapping-add-u16-requires
 wrapping-add-u16-requires c κs = search needs
 
 pop-words-requires : tie.Need-pop-words-requires
-pop-words-requires c κs = (c .before .before .before .before .before .before .field-a .ensures .1, omega (arith, c .before .before .before .before .registers-from .ensures .1))
+pop-words-requires c κs = (c .before .before .before .before .before .before .field-a .ensures .1, omega (arith, c .before .before .before .before .registers-from .ensures .1), rw (c .before .before .before .before .registers-from .ensures .0, c .before .before .before .before .before .before .field-a .ensures .0, c .before .before .before .before .before .field-b .ensures .0) (c .before .before .before .before .before .before .before .before .pre))
 
 put-requires : tie.Need-put-requires
 put-requires c κs = search needs
