@@ -18,7 +18,15 @@ def by(*unfolded, use=(), **answers):
 
 
 # the stores of an entry are checked, with the case of the answer
+FOUND = '(@args .memory .now) (@args .pages .now) _ (@args .a) _ _ (@Start .fits .a .fits) (@wrapping-add-u16 .ensures) (@if1 .taken) (sym (@look-up .ensures) ∙ @last .given .1)'
 CHECKED = '← @group-of .ensures .0, ← @check-span .ensures, @%s .given .1'
+
+# where the service pointer and the last word of a vector were found
+FOUNDS = 'Rattle.interrupt.specs.Founds.'
+AT_SERVICE, AT_LAST = '(sym (@look-up .ensures) ∙ @service .given .1)', '(sym (@look-up2 .ensures) ∙ @last .given .1)'
+HERE = '(@args .memory .now) (@args .pages .now) '
+SERVICE = HERE + '(33 + 2 * @args .n) _ 1 (omega arith) ' + AT_SERVICE + ' 1 (omega arith)'
+LAST = HERE + '_ _ 2 (@if1 .left) ' + AT_LAST + ' %s (omega arith)'
 
 A = {
     'fields/key_of': by(STATE + ' keyOf', use=[EQUATIONS, OMEGA], returns='(refl, omega arith)'),
@@ -33,15 +41,34 @@ A = {
         'cast-result': 'omega (arith, leading-le 16 (bitAnd (@args .pi) (@take .result)))'},
     'vector/fault_of': by(ENTRIES + ' faultOf', returns='cc', returns_2='cc'),
     'vector/read_zero': by(ENTRIES + ' gotZero', returns='@read-word .ensures'),
-    'vector/vector': by(ENTRIES + ' vectorOf', SPANS + ' wrapped', use=[EQUATIONS]),
+    'vector/vector_each': by(ENTRIES + ' vectorOf', SPANS + ' wrapped', use=[EQUATIONS]),
+    'vector/vector_found': by(FOUNDS + ' foundOr', use=[EQUATIONS, OMEGA, 'Prim.Native.Nat.{_+_, _*_}', 'Rattle.interrupt.proofs.VectorLaws.{inside-at, room-before, inside-before, vector-together}'],
+        mul_base='omega (arith, inside-at %s_ _ %s)' % (HERE, AT_SERVICE), shared_slice_read_base='search (needs, inside-at %s_ _ %s)' % (HERE, AT_SERVICE),
+        sub_link='omega (arith, room-before %s)' % SERVICE, mul_link='omega (arith, inside-before %s)' % SERVICE,
+        shared_slice_read_link='search (needs, inside-before %s)' % SERVICE,
+        sub_mk='omega (arith, room-before %s)' % (LAST % '2'), mul_mk='omega (arith, inside-before %s)' % (LAST % '2'),
+        shared_slice_read_mk='search (needs, inside-before %s)' % (LAST % '2'),
+        sub_sw='omega (arith, room-before %s)' % (LAST % '1'), mul_sw='omega (arith, inside-before %s)' % (LAST % '1'),
+        shared_slice_read_sw='search (needs, inside-before %s)' % (LAST % '1'),
+        mul_ic='omega (arith, inside-at %s_ _ %s)' % (HERE, AT_LAST), shared_slice_read_ic='search (needs, inside-at %s_ _ %s)' % (HERE, AT_LAST),
+        returns='refl', returns_3='refl', returns_4='refl',
+        returns_2='sym (vector-together %s(@args .n) _ _ _ (omega arith) %s (@wrapping-add-u16 .ensures) (@if1 .left) %s)' % (HERE, AT_SERVICE, AT_LAST)),
+    'vector/vector': by(FOUNDS + ' foundOr', use=[EQUATIONS], returns='rw (@found .given .1) at (@vector-found .ensures)', returns_2='@vector-each .ensures'),
     'vector/call_vector': by(ENTRIES + ' callOf', SPANS + ' wrapped', use=[EQUATIONS]),
     'entry/machine_error': by(ENTRIES + ' machineError', use=[EQUATIONS, TESTS],
         returns='rw (eq-eqb _ _ (@if1 .taken))', returns_2='rw (ne-eqb _ _ (@if1 .left))'),
-    'entry/link': by(ENTRIES + ' linked linkStored refusalOf oldWords', use=[EQUATIONS],
-        returns='(rw (%s) refl, λ s m w a. rw (%s, ← @group-of .ensures .0, m, w, a) (@write-span .ensures))' % (CHECKED % 'enum-told', CHECKED % 'enum-told'),
-        returns_2='(rw (%s) refl, λ s m w a. rw (%s) refl)' % (CHECKED % 'verdict', CHECKED % 'verdict')),
-    'entry/enter': by(STEP + ' entered', ENTRIES + ' arrived', STATE + ' withIc withSw withMk withPi withFt withEnabled', use=[EQUATIONS, STATE + '{joined}'],
-        returns='λ regs ports. record { state-is = rw (← @link .ensures .0, ← @reset-bit .ensures, ← @machine-error .ensures) refl; memory-is = @link .ensures .1 (joined (@args .core) regs) refl refl refl; pages-is = refl; ports-is = refl }'),
+    'entry/link_each': by(ENTRIES + ' linked linkStored refusalOf oldWords', use=[EQUATIONS],
+        returns='λ v n l. (rw (n, l, %s) refl, λ s m w a. rw (n, l, %s, ← @group-of .ensures .0, m, w, a) (@write-span .ensures))' % (CHECKED % 'enum-told', CHECKED % 'enum-told'),
+        returns_2='λ v n l. (rw (n, l, %s) refl, λ s m w a. rw (n, l, %s) refl)' % (CHECKED % 'verdict', CHECKED % 'verdict')),
+    'entry/link': by(ENTRIES + ' refusalOf', use=[EQUATIONS, OMEGA, STATE + '{groupOf}', 'Rattle.interrupt.proofs.EntryLaws.{two-before, inside-first, inside-second, inside-third, linked-clear, linked-stored}'],
+        sub_memory='omega (arith, two-before %s)' % FOUND, sub_memory_2='omega (arith, two-before %s)' % FOUND,
+        mul_memory='omega (arith, inside-first %s)' % FOUND, mul_memory_2='omega (arith, inside-second %s)' % FOUND, mul_memory_3='omega (arith, inside-third %s)' % FOUND,
+        slice_write_memory='search (needs, inside-first %s)' % FOUND, slice_write_memory_2='search (needs, inside-second %s)' % FOUND,
+        slice_write_memory_3='search (needs, inside-third %s)' % FOUND,
+        returns='λ v n l. (rw (linked-clear %s v (ap groupOf n ∙ sym (@group-of .ensures .0)) l) refl, λ s m w a. rw (linked-clear %s v (ap groupOf n ∙ sym (@group-of .ensures .0)) l, linked-stored %s v (ap groupOf n ∙ sym (@group-of .ensures .0)) l s, m, w, a) refl)' % (FOUND, FOUND, FOUND),
+        returns_2='@link-each .ensures'),
+    'entry/arrive': by(ENTRIES + ' arrived', STATE + ' withIc withSw withMk withPi withFt withEnabled', use=[EQUATIONS],
+        returns='λ regs. rw (← @reset-bit .ensures, ← @machine-error .ensures) refl'),
     'time/release': by(STEP + ' released', STATE + ' withHold', use=[EQUATIONS], returns='λ regs. refl'),
     'time/fault': by(STEP + ' faulted', STATE + ' withIc withPi withFt', use=[EQUATIONS], returns='λ regs. refl'),
     'time/rise': by(STEP + ' risen', SPANS + ' wrapped', returns='rw (@if1 .taken) (@wrapping-add-u16 .ensures)', returns_2='rw (@if1 .left)'),

@@ -1,2 +1,3 @@
--- The definition of a state some ticks later.
+-- The definitions of a state some ticks later, and of a vector that was found at once.
+pub mod Founds
 pub mod Later

@@ -6,17 +6,19 @@ ghost use Prim.Native.Nat.{ℕ, _<_};
 ghost use lib.ListN.{length};
 ghost use Rattle.machine.specs.declared.State.{State};
 ghost use Rattle.machine.specs.State.{joined};
-ghost use Rattle.machine.specs.Machine.{Became};
-ghost use Rattle.machine.specs.Entries.{linked, linkStored, refusalOf, machineError};
-ghost use Rattle.machine.specs.Step.{entered};
+ghost use lib.Bits.{bitOr};
+ghost use Rattle.machine.specs.Entries.{linked, linkStored, refusalOf, machineError, arrived};
 use crate::fields::group_of;
 use machine::Core;
 use machine::Vector;
 use page::Access;
+use page::Place;
 use page::Span;
 use page::Verdict;
 use page::lookup::check_span;
+use page::lookup::look_up;
 use page::write::write_span;
+use std::num::wrapping_add_u16;
 use word::bits::reset_bit;
 
 // PI bit 1 where there is a fault.
@@ -29,16 +31,17 @@ fn machine_error(b: u16) -> u16
     0x4000
 }
 
-// Old MK, SW and IC are stored at the linkage pointer, all three or none, for any state with these parts; the FT bit of the first refusal, or 0.
-fn link(mk: u16, sw: u16, ic: u16, memory: &mut [u16], pages: &[u16], v: Vector) -> u16
+// Old MK, SW and IC are stored at the linkage pointer a by the new SW, all three or none, for any vector and state with these parts; the FT bit
+// of the first refusal, or 0. Each word is looked up.
+fn link_each(mk: u16, sw: u16, ic: u16, memory: &mut [u16], pages: &[u16], next: u16, a: u16) -> u16
     requires { ⌜ length (now pages) ≡ 512 ⌝ }
-    ensures { λ r. ⌜ (r ≡ refusalOf (linked (now (memory .entry)) (now (pages .entry)) v))
+    ensures { λ r. ⌜ ((v : Vector) → v .sw ≡ next → v .link ≡ a → (r ≡ refusalOf (linked (now (memory .entry)) (now (pages .entry)) v))
         × ((s : State) → s .mk ≡ mk → s .sw ≡ sw → s .ic ≡ ic
-        → now (memory .exit) ≡ linkStored s (now (memory .entry)) (now (pages .entry)) v (linked (now (memory .entry)) (now (pages .entry)) v)) ⌝ }
+        → now (memory .exit) ≡ linkStored s (now (memory .entry)) (now (pages .entry)) v (linked (now (memory .entry)) (now (pages .entry)) v))) ⌝ }
 {
-    let group = group_of(v.sw);
+    let group = group_of(next);
     let span = Span {
-        start: v.link,
+        start: a,
         count: 3,
         stride: 1,
         hole: 16,
@@ -57,13 +60,34 @@ fn link(mk: u16, sw: u16, ic: u16, memory: &mut [u16], pages: &[u16], v: Vector)
     }
 }
 
-// Interrupt n is entered by the vector v: state and memory after it, with any registers and ports.
-pub fn enter(core: Core, memory: &mut [u16], pages: &[u16], n: u16, v: Vector) -> Core
-    requires { ⌜ (length (now pages) ≡ 512) × (n < 16) ⌝ }
-    ensures { λ r. ⌜ ((regs ports : List ℕ)
-        → Became (entered (joined core regs) (now (memory .entry)) (now (pages .entry)) ports n v) (joined r regs) (now (memory .exit)) (now (pages .entry)) ports) ⌝ }
+// The same. Where the three words lie in one page and the last is found, the others are before it.
+pub fn link(mk: u16, sw: u16, ic: u16, memory: &mut [u16], pages: &[u16], next: u16, a: u16) -> u16
+    requires { ⌜ length (now pages) ≡ 512 ⌝ }
+    ensures { λ r. ⌜ ((v : Vector) → v .sw ≡ next → v .link ≡ a → (r ≡ refusalOf (linked (now (memory .entry)) (now (pages .entry)) v))
+        × ((s : State) → s .mk ≡ mk → s .sw ≡ sw → s .ic ≡ ic
+        → now (memory .exit) ≡ linkStored s (now (memory .entry)) (now (pages .entry)) v (linked (now (memory .entry)) (now (pages .entry)) v))) ⌝ }
 {
-    let refusal = link(core.mk, core.sw, core.ic, memory, pages, v);
+    let end = wrapping_add_u16(a, 2);
+    if 2 <= end % 4096 {
+        let last = look_up(Access::Write, 0, group_of(next), pages, memory.len(), end);
+        match last {
+            Place::At(p) => {
+                memory[p - 2] = mk;
+                memory[p - 1] = sw;
+                memory[p] = ic;
+                return 0;
+            }
+            Place::Refused(_) => {}
+        }
+    }
+    link_each(mk, sw, ic, memory, pages, next, a)
+}
+
+// The core after the entry of interrupt n by the vector v, whose stores came to this refusal, with any registers.
+pub fn arrive(core: Core, n: u16, v: Vector, refusal: u16) -> Core
+    requires { ⌜ n < 16 ⌝ }
+    ensures { λ r. ⌜ ((regs : List ℕ) → joined r regs ≡ arrived (joined core regs) n v (bitOr (v .fault) refusal)) ⌝ }
+{
     let bits = v.fault | refusal;
     let rest = reset_bit(core.pi, n);
     let error = machine_error(bits);

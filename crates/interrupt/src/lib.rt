@@ -6,3 +6,11 @@ pub mod later;
 pub mod pending;
 pub mod time;
 pub mod vector;
+
+use machine::Vector;
+
+// A vector, where all its words were found at once.
+pub enum Found {
+    All(Vector),
+    NotAll,
+}

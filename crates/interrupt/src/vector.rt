@@ -4,9 +4,13 @@ ghost use mathlib.Core.Path.{_≡_};
 ghost use Prim.Native.Nat.{_<_};
 ghost use lib.ListN.{length};
 ghost use Rattle.machine.specs.Entries.{faultOf, gotZero, vectorOf, callOf};
+ghost use Rattle.interrupt.specs.Founds.{foundOr};
+use crate::Found;
 use machine::Vector;
 use page::Access;
 use page::Got;
+use page::Place;
+use page::lookup::look_up;
 use page::read::read_word;
 use page::read::word_of;
 use std::num::wrapping_add_u16;
@@ -29,8 +33,8 @@ fn read_zero(memory: &[u16], pages: &[u16], a: u16) -> Got
     read_word(Access::Read, 0, 0, memory, pages, a)
 }
 
-// Interrupt n.
-pub fn vector(memory: &[u16], pages: &[u16], n: u16) -> Vector
+// Interrupt n, each word looked up.
+fn vector_each(memory: &[u16], pages: &[u16], n: u16) -> Vector
     requires { ⌜ (length (now pages) ≡ 512) × (n < 16) ⌝ }
     ensures { λ r. ⌜ r ≡ vectorOf (now (memory .entry)) (now (pages .entry)) n ⌝ }
 {
@@ -47,6 +51,54 @@ pub fn vector(memory: &[u16], pages: &[u16], n: u16) -> Vector
         sw: word_of(sw),
         ic: word_of(ic),
         fault: pointers | fault_of(mk) | fault_of(sw) | fault_of(ic),
+    }
+}
+
+// Interrupt n, where MK, SW and IC lie in one page and no word is refused: the linkage pointer is before the service pointer, MK and SW are
+// before IC.
+fn vector_found(memory: &[u16], pages: &[u16], n: u16) -> Found
+    requires { ⌜ (length (now pages) ≡ 512) × (n < 16) ⌝ }
+    ensures { λ r. ⌜ foundOr r (vectorOf (now (memory .entry)) (now (pages .entry)) n) ≡ vectorOf (now (memory .entry)) (now (pages .entry)) n ⌝ }
+{
+    let service = look_up(Access::Read, 0, 0, pages, memory.len(), 33 + 2 * n);
+    match service {
+        Place::At(p) => {
+            let base = memory[p];
+            let end = wrapping_add_u16(base, 2);
+            if end % 4096 < 2 {
+                return Found::NotAll;
+            }
+            let last = look_up(Access::Read, 0, 0, pages, memory.len(), end);
+            match last {
+                Place::At(q) => {
+                    let link = memory[p - 1];
+                    let mk = memory[q - 2];
+                    let sw = memory[q - 1];
+                    let ic = memory[q];
+                    Found::All(Vector {
+                        link,
+                        mk,
+                        sw,
+                        ic,
+                        fault: 0,
+                    })
+                }
+                Place::Refused(_) => Found::NotAll,
+            }
+        }
+        Place::Refused(_) => Found::NotAll,
+    }
+}
+
+// Interrupt n.
+pub fn vector(memory: &[u16], pages: &[u16], n: u16) -> Vector
+    requires { ⌜ (length (now pages) ≡ 512) × (n < 16) ⌝ }
+    ensures { λ r. ⌜ r ≡ vectorOf (now (memory .entry)) (now (pages .entry)) n ⌝ }
+{
+    let found = vector_found(memory, pages, n);
+    match found {
+        Found::All(v) => v,
+        Found::NotAll => vector_each(memory, pages, n),
     }
 }
 

@@ -1,101 +1,41 @@
 -- `interrupt::vector::vector` meets its contract. Assumes nothing.
-use mathlib.Core.Path.{refl}
-use Rattle.machine.specs.Entries.{vectorOf}
-use Rattle.page.specs.Spans.{wrapped}
+use mathlib.Core.Path.{_≡_, refl, sym, ap, _∙_}
+use Rattle.interrupt.specs.Founds.{foundOr}
 use borrow.Author.Needs.{needs}
 use Rattle.interrupt.proofs.vector.vector.Statement.{statement}
 use Rattle.interrupt.proofs.vector.vector.Tie as tie
+use Rattle.interrupt.proofs.vector.vector.Reads as reads
+use Rattle.interrupt.proofs.vector.vector.Lts as lts
+use Rattle.interrupt.proofs.vector.vector_each.Reads as vector-each-reads
+use Rattle.interrupt.proofs.vector.vector_found.Reads as vector-found-reads
 
-mul-read-zero : tie.Need-mul-read-zero
-mul-read-zero c = search needs
+vector-found-requires : tie.Need-vector-found-requires
+vector-found-requires c κs = search needs
 
-add-read-zero : tie.Need-add-read-zero
-add-read-zero c = search needs
+enum-known-found : tie.Need-enum-known-found
+enum-known-found c = search needs
 
-read-zero-requires : tie.Need-read-zero-requires
-read-zero-requires c κs = search needs
+enum-told : tie.Need-enum-told
+enum-told c = search needs
 
-mul-read-zero-2 : tie.Need-mul-read-zero-2
-mul-read-zero-2 c = search needs
-
-add-read-zero-2 : tie.Need-add-read-zero-2
-add-read-zero-2 c = search needs
-
-read-zero-requires-2 : tie.Need-read-zero-requires-2
-read-zero-requires-2 c κs = search needs
-
-word-of-requires : tie.Need-word-of-requires
-word-of-requires c κs = search needs
-
-read-zero-requires-3 : tie.Need-read-zero-requires-3
-read-zero-requires-3 c κs = search needs
-
-wrapping-add-u16-requires : tie.Need-wrapping-add-u16-requires
-wrapping-add-u16-requires c κs = search needs
-
-read-zero-requires-4 : tie.Need-read-zero-requires-4
-read-zero-requires-4 c κs = search needs
-
-wrapping-add-u16-requires-2 : tie.Need-wrapping-add-u16-requires-2
-wrapping-add-u16-requires-2 c κs = search needs
-
-read-zero-requires-5 : tie.Need-read-zero-requires-5
-read-zero-requires-5 c κs = search needs
-
-fault-of-requires : tie.Need-fault-of-requires
-fault-of-requires c κs = search needs
-
-fault-of-requires-2 : tie.Need-fault-of-requires-2
-fault-of-requires-2 c κs = search needs
-
-word-of-requires-2 : tie.Need-word-of-requires-2
-word-of-requires-2 c κs = search needs
-
-word-of-requires-3 : tie.Need-word-of-requires-3
-word-of-requires-3 c κs = search needs
-
-word-of-requires-4 : tie.Need-word-of-requires-4
-word-of-requires-4 c κs = search needs
-
-word-of-requires-5 : tie.Need-word-of-requires-5
-word-of-requires-5 c κs = search needs
-
-fault-of-requires-3 : tie.Need-fault-of-requires-3
-fault-of-requires-3 c κs = search needs
-
-fault-of-requires-4 : tie.Need-fault-of-requires-4
-fault-of-requires-4 c κs = search needs
-
-fault-of-requires-5 : tie.Need-fault-of-requires-5
-fault-of-requires-5 c κs = search needs
+vector-each-requires : tie.Need-vector-each-requires
+vector-each-requires c κs = search needs
 
 returns : tie.Need-returns
-unfolding vectorOf wrapped
-returns c = rw (← c .before .before .before .before .before .before .before .before .before .before .before .before .before .before .before .before .read-zero .ensures, ← c .before .before .before .before .before .before .before .before .before .before .before .before .before .before .before .read-zero2 .ensures, ← c .before .before .before .before .before .before .before .before .before .before .before .before .before .before .word-of .ensures, ← c .before .before .before .before .before .before .before .before .before .before .before .before .before .read-zero3 .ensures, ← c .before .before .before .before .before .before .before .before .before .before .before .before .wrapping-add-u16 .ensures, ← c .before .before .before .before .before .before .before .before .before .before .before .read-zero4 .ensures, ← c .before .before .before .before .before .before .before .before .before .before .wrapping-add-u162 .ensures, ← c .before .before .before .before .before .before .before .before .before .read-zero5 .ensures, ← c .before .before .before .before .before .before .before .before .fault-of .ensures, ← c .before .before .before .before .before .before .before .fault-of2 .ensures, ← c .before .before .before .before .before .before .word-of2 .ensures, ← c .before .before .before .before .before .word-of3 .ensures, ← c .before .before .before .before .word-of4 .ensures, ← c .before .before .before .word-of5 .ensures, ← c .before .before .fault-of3 .ensures, ← c .before .fault-of4 .ensures, ← c .fault-of5 .ensures) refl
+unfolding foundOr
+returns c = rw (c .before .found .given .1) at (c .before .before .before .vector-found .ensures)
+
+returns-2 : tie.Need-returns-2
+unfolding foundOr
+returns-2 c = c .vector-each .ensures
 
 pub vector-spec : {M : Type 1} → statement M
 vector-spec =
     tie.close
     (tie.spec
-    mul-read-zero
-    add-read-zero
-    read-zero-requires
-    mul-read-zero-2
-    add-read-zero-2
-    read-zero-requires-2
-    word-of-requires
-    read-zero-requires-3
-    wrapping-add-u16-requires
-    read-zero-requires-4
-    wrapping-add-u16-requires-2
-    read-zero-requires-5
-    fault-of-requires
-    fault-of-requires-2
-    word-of-requires-2
-    word-of-requires-3
-    word-of-requires-4
-    word-of-requires-5
-    fault-of-requires-3
-    fault-of-requires-4
-    fault-of-requires-5
-    returns)
+    vector-found-requires
+    enum-known-found
+    enum-told
+    vector-each-requires
+    returns
+    returns-2)
