@@ -17,7 +17,7 @@ use Rattle.machine.specs.Machine.{spanFrom}
 use Rattle.isa.specs.Fields.{fieldA, register}
 use Rattle.isa.specs.Addressing.{inMemory}
 use Rattle.isa.specs.Accesses.{wordsMoved, wordsOfInteger, wordsOfFloat, wordsRead, wordsWritten, atOperand, readsOf, writesOf}
-use Rattle.access.specs.Needs.{exceptions, needOf, allNeeds}
+use Rattle.access.specs.Needs.{exceptions, wayOf, needOf, allNeeds}
 
 -- the entry of a list that is the table
 pub need-listed : (table : List ℕ) (form : ℕ) → table ≡ allNeeds → getD table (operationOf form) 0 ≡ needOf (operationOf form)
@@ -31,7 +31,7 @@ parted k =
     && (eqb (needOf k / 16 % 2) (cond (eqb k 37) 1 0) && eqb (needOf k / 32 % 2) (cond (eqb k 36) 1 0))
 
 all-parted : (k : ℕ) → k < 256 → parted k ≡ true
-unfolding needOf exceptions wordsRead wordsMoved wordsOfFloat wordsOfInteger wordsWritten
+unfolding needOf exceptions wayOf wordsRead wordsMoved wordsOfFloat wordsOfInteger wordsWritten
 all-parted k h = passes parted 256 refl k h
 
 parts : (k : ℕ) → k < 256
@@ -61,7 +61,7 @@ apart k j h i = by (eqb k j) refl
 
 others : (k : ℕ) → needOf k / 64 % 2 ≡ 0
     → (eqb k 40 ≡ false) × (eqb k 44 ≡ false) × (eqb k 47 ≡ false) × (eqb k 50 ≡ false) × (eqb k 54 ≡ false)
-unfolding needOf exceptions wordsRead wordsMoved wordsOfFloat wordsOfInteger wordsWritten
+unfolding needOf exceptions wayOf wordsRead wordsMoved wordsOfFloat wordsOfInteger wordsWritten
 others k h = (apart k 40 h refl, apart k 44 h refl, apart k 47 h refl, apart k 50 h refl, apart k 54 h refl)
 
 -- a span upwards, by its start and its count
@@ -117,3 +117,12 @@ module _ (regs : List ℕ) (n : Instruction) (need : ℕ) (e : need ≡ needOf (
 
   pub writes-span : (start count : ℕ) → start ≡ writesOf regs n .start → count ≡ writesOf regs n .count → spanFrom start count ≡ writesOf regs n
   writes-span = marked (writesOf regs n) (need / 32 % 2) _ _ _ register-written operand-written
+
+-- ---- the way of an operation that is carried out directly
+
+ways-told : (k : ℕ) → k < 256 → needOf k / 128 ≡ wayOf k
+unfolding needOf exceptions wayOf wordsRead wordsMoved wordsOfFloat wordsOfInteger wordsWritten
+ways-told k h = eqb-true _ _ (passes (λ (j : ℕ). eqb (needOf j / 128) (wayOf j)) 256 refl k h)
+
+pub way-told : (form need : ℕ) → need ≡ needOf (operationOf form) → need / 128 ≡ wayOf (operationOf form)
+way-told form need e = ap (λ (m : ℕ). m / 128) e ∙ ways-told (operationOf form) (omega arith)

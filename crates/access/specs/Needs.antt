@@ -1,4 +1,5 @@
--- What an operation needs, as one number: the words that it reads and writes, and whether it is one of the few that are carried out in another way.
+-- What an operation needs, as one number: the words that it reads and writes, whether it is one of the few that are carried out in another way,
+-- and the way of one that is carried out directly.
 -- Assumes nothing.
 use Prim.Native.Nat.{ℕ, _+_, _*_}
 use mathlib.Core.List.{List, [], _∷_}
@@ -14,9 +15,21 @@ exceptions =
     (40, 64) ∷ (44, 64) ∷ (47, 64) ∷ (50, 64) ∷ (54, 64) ∷ (90, 64) ∷
     []
 
--- the words read at the derived address, 4 times the words written there, and the exception's number
+-- The ways of the most frequent operations. 1: L A S OR AND, one word into the accumulator. 2: DL DA DS, two words. 3: ST STC, one word stored.
+-- 4: JC BR BEZ BLT BLE BGT BNZ BGE, on by CS. 0: any other.
+unfoldable pub wayOf : ℕ → ℕ
+wayOf operation =
+    select operation
+    ((38, 1) ∷ (55, 1) ∷ (63, 1) ∷ (81, 1) ∷ (82, 1) ∷
+    (39, 2) ∷ (59, 2) ∷ (67, 2) ∷
+    (45, 3) ∷ (46, 3) ∷
+    (24, 4) ∷ (27, 4) ∷ (28, 4) ∷ (29, 4) ∷ (31, 4) ∷ (32, 4) ∷ (33, 4) ∷ (34, 4) ∷
+    [])
+    0
+
+-- the words read at the derived address, 4 times the words written there, the exception's number, and 128 times the way
 unfoldable pub needOf : ℕ → ℕ
-needOf operation = wordsRead operation + 4 * wordsWritten operation + select operation exceptions 0
+needOf operation = wordsRead operation + 4 * wordsWritten operation + select operation exceptions 0 + 128 * wayOf operation
 
 -- the table: the needs of the operations 0 to 255
 unfoldable pub allNeeds : List ℕ

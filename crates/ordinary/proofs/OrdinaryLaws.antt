@@ -1,7 +1,7 @@
 -- A span of at most three words, word by word; the rule of an operation by its range. Assumes nothing.
 use Prim.Native.Nat.{ℕ, zero, suc, _+_, _%_, _≤_, _<_}
 use mathlib.Core.Path.{_≡_, refl, sym, ap, _∙_}
-use mathlib.Core.Bool.{Bool, true, false, cond}
+use mathlib.Core.Bool.{Bool, true, false, cond, false≢true}
 use mathlib.Core.List.{List, [], _∷_}
 use native.Mathlib.Omega.{arith}
 use lib.Dec.{ltb}
@@ -12,7 +12,8 @@ use Rattle.page.specs.declared.Span.{Span}
 use Rattle.page.specs.declared.Access.the-variants.{Read, Write}
 use Rattle.page.specs.declared.Place.{Place}
 use Rattle.page.specs.declared.Place.the-variants.{At, Refused}
-use Rattle.page.specs.declared.Verdict.the-variants.{Clear}
+use Rattle.page.specs.declared.Verdict.{Verdict}
+use Rattle.page.specs.declared.Verdict.the-variants.{Clear, Fault}
 use Rattle.page.specs.Pages.{lookup}
 use Rattle.page.specs.Spans.{wrapped, gotAt, wordOf, putAt, andThen, blank, passed, checkedFrom, checked, readFrom, wordsOf, writtenFrom, written}
 use Rattle.page.proofs.SpanLaws.{passed-elim}
@@ -24,7 +25,8 @@ use Rattle.isa.specs.Words.{bitOperation, shiftOperation, jumpOperation, loadOp
 use Rattle.isa.specs.Integers.{integerOperation, logicalOperation}
 use Rattle.isa.specs.Floats.{floatOperation}
 use Rattle.isa.specs.Execute.{ordinary}
-use Rattle.ordinary.specs.Gathers.{complete, gathered, after, fromThird, fromSecond, fromFirst}
+use Rattle.ordinary.specs.declared.Gathered.{Gathered}
+use Rattle.ordinary.specs.Gathers.{FirstThree, complete, denied, gathered, after, fromThird, fromSecond, fromFirst}
 use Rattle.ordinary.specs.Stores.{storedOne}
 
 -- ---- words read
@@ -64,6 +66,18 @@ gathered-few key group g size m a (suc (suc zero)) h = two m (lookup Read key gr
 gathered-few key group g size m a (suc (suc (suc zero))) h =
     all-three m (lookup Read key group g size a) (lookup Read key group g size (wrapped (a + 1))) (lookup Read key group g size (wrapped (wrapped (a + 1) + 1)))
 gathered-few key group g size m a (suc (suc (suc (suc n)))) h = absurd (omega arith)
+
+-- ---- what was gathered tells the check
+
+pub all-gathered : (w : Verdict) (ws : List ℕ) (v : Gathered) → v ≡ gathered w ws → v .clear ≡ true → (w ≡ Clear) × FirstThree ws (v .x) (v .y) (v .z)
+unfolding gathered complete denied
+all-gathered Clear ws v e h = (refl, record { first-is = ap (λ r. r .x) e; second-is = ap (λ r. r .y) e; third-is = ap (λ r. r .z) e })
+all-gathered (Fault b) ws v e h = absurd (false≢true (sym (ap (λ r. r .clear) e) ∙ h))
+
+pub denied-gathered : (w : Verdict) (ws : List ℕ) (v : Gathered) → v ≡ gathered w ws → v .clear ≡ false → w ≡ Fault (v .fault)
+unfolding gathered complete denied
+denied-gathered Clear ws v e h = absurd (false≢true (sym h ∙ ap (λ r. r .clear) e))
+denied-gathered (Fault b) ws v e h = ap Fault (sym (ap (λ r. r .fault) e))
 
 -- ---- stores
 

@@ -1,0 +1,3 @@
+-- The laws of the operations that are carried out directly.
+pub mod WayLaws
+pub mod EndLaws

@@ -1,0 +1,154 @@
+-- What the definitions say of the operations of each way: who may run them, which words they read and write, and what they do.
+-- Assumes nothing.
+use Prim.Native.Nat.{ℕ, _+_, _*_, _/_, _%_, _<_, _≤_}
+use mathlib.Core.Path.{_≡_, refl, sym, ap, _∙_}
+use mathlib.Core.Bool.{Bool, true, false, not, cond, _||_, false≢true}
+use mathlib.Core.List.{List, [], _∷_}
+use native.Mathlib.Omega.{arith}
+use lib.Dec.{eqb, leb}
+use lib.ListN.{getD}
+use borrow.Author.Tests.{eq-eqb, eqb-true, leb-true}
+use Rattle.choice.specs.Select.{select}
+use Rattle.choice.specs.Table.{among, Every}
+use Rattle.choice.proofs.TestLaws.{either, passes, among-every}
+use Rattle.decode.specs.Forms.{modeOf, operationOf, privilegedOperations}
+use Rattle.machine.specs.declared.Instruction.{Instruction}
+use Rattle.machine.specs.declared.Class.the-variants.{User}
+use Rattle.machine.specs.State.{csOf}
+use Rattle.machine.specs.Machine.{Effect, spanFrom}
+use Rattle.fixed.specs.Fixed.{Outcome}
+use Rattle.isa.specs.Fields.{fieldA, register}
+use Rattle.isa.specs.Addressing.{inMemory, operand, doubleOperand, accumulator}
+use Rattle.isa.specs.Accesses.{wordsMoved, wordsOfInteger, wordsOfFloat, wordsRead, wordsWritten, readsOf, writesOf}
+use Rattle.isa.specs.Effects.{Context, fixedOverflow, single, double, stored, jumped}
+use Rattle.isa.specs.Words.{registerPair, jumpOperation, loadOperation, storeOperation}
+use Rattle.isa.specs.Integers.{singleOutcome, doubleOutcome, integerOperation, logicalOperation}
+use Rattle.isa.specs.Execute.{ordinary, executed}
+use Rattle.isa.specs.Mil1750.{classOf}
+use Rattle.access.specs.Needs.{exceptions, wayOf, needOf}
+use Rattle.access.proofs.NeedsLaws.{operand-read, operand-written}
+use Rattle.direct.specs.Ways.{plain, intoSingle, intoDouble, target, wordStored, isTaken}
+
+-- ---- the way of an operation
+
+-- no way is above 4
+pub way-most : (form : ℕ) → wayOf (operationOf form) ≤ 4
+unfolding wayOf
+way-most form = leb-true _ _ (passes (λ (k : ℕ). leb (wayOf k) 4) 256 refl (operationOf form) (omega arith))
+
+-- what is tested at every operation whose way is w holds of each of them
+of-way : (w : ℕ) (f : ℕ → Bool) → ((k : ℕ) → k < 256 → not (eqb (wayOf k) w) || f k ≡ true) → (k : ℕ) → k < 256 → wayOf k ≡ w → f k ≡ true
+of-way w f t k h e =
+    either (not (eqb (wayOf k) w)) (f k) (λ u. absurd (false≢true (ap not (sym (eq-eqb _ _ e)) ∙ u))) (λ u. u) (t k h)
+
+-- the words read and written of each way, as a need
+abbrev needs : ℕ → ℕ
+needs w = 128 * w + select w ((1, 1) ∷ (2, 2) ∷ (3, 4) ∷ []) 0
+
+needs-told : (k : ℕ) → k < 256 → eqb (wayOf k) 0 || eqb (needOf k) (needs (wayOf k)) ≡ true
+unfolding needOf exceptions wayOf wordsRead wordsMoved wordsOfFloat wordsOfInteger wordsWritten
+needs-told k h = passes (λ (j : ℕ). eqb (wayOf j) 0 || eqb (needOf j) (needs (wayOf j))) 256 refl k h
+
+-- ---- an instruction whose way is w
+
+module _ (n : Instruction) (w : ℕ) (e : wayOf (operationOf (n .form)) ≡ w) (h : 0 < w) where
+  need-is : needOf (operationOf (n .form)) ≡ needs w
+  need-is =
+      either (eqb (wayOf (operationOf (n .form))) 0) (eqb (needOf (operationOf (n .form))) (needs (wayOf (operationOf (n .form)))))
+      (λ u. let z : wayOf (operationOf (n .form)) ≡ 0 = eqb-true _ _ u in absurd (omega (arith, z, e, h)))
+      (λ u. eqb-true _ _ u ∙ ap needs e)
+      (needs-told (operationOf (n .form)) (omega arith))
+
+  -- it is another one than j, which has no way
+  other : (j : ℕ) → wayOf j ≡ 0 → eqb (operationOf (n .form)) j ≡ false
+  other j i = by (eqb (operationOf (n .form)) j) refl
+    where
+      by : (b : Bool) → eqb (operationOf (n .form)) j ≡ b → eqb (operationOf (n .form)) j ≡ false
+      by true u = let z : wayOf (operationOf (n .form)) ≡ wayOf j = ap wayOf (eqb-true _ _ u) in absurd (omega (arith, z, e, h, i))
+      by false u = u
+
+  -- any key may run it
+  pub way-user : classOf (operationOf (n .form)) ≡ User
+  unfolding classOf privilegedOperations wayOf
+  way-user = rw (other 30 refl, other 1 refl, other 35 refl) refl
+
+-- the words that it reads and writes, by the way's need
+module _ (n : Instruction) (w k j : ℕ) (e : wayOf (operationOf (n .form)) ≡ w) (h : 0 < w)
+    (p : needs w / 64 % 2 ≡ 0) (q : needs w / 16 % 2 ≡ 0) (r : needs w / 32 % 2 ≡ 0) (s : needs w % 4 ≡ k) (t : needs w / 4 % 4 ≡ j) where
+  pub way-reads : (regs : List ℕ) → readsOf regs n ≡ spanFrom (n .address) (cond (inMemory (modeOf (n .form))) k 0)
+  way-reads regs =
+      operand-read regs n (needs w) (sym (need-is n w e h)) p (λ z. absurd (omega (arith, z, q)))
+      ∙ ap (λ (c : ℕ). spanFrom (n .address) (cond (inMemory (modeOf (n .form))) c 0)) s
+
+  pub way-writes : (regs : List ℕ) → writesOf regs n ≡ spanFrom (n .address) (cond (inMemory (modeOf (n .form))) j 0)
+  way-writes regs =
+      operand-written regs n (needs w) (sym (need-is n w e h)) p (λ z. absurd (omega (arith, z, r)))
+      ∙ ap (λ (c : ℕ). spanFrom (n .address) (cond (inMemory (modeOf (n .form))) c 0)) t
+
+-- ---- what it does
+
+-- the operations of each way
+abbrev ones : List ℕ
+ones = 38 ∷ 55 ∷ 63 ∷ 81 ∷ 82 ∷ []
+
+abbrev twos : List ℕ
+twos = 39 ∷ 59 ∷ 67 ∷ []
+
+abbrev threes : List ℕ
+threes = 45 ∷ 46 ∷ []
+
+abbrev fours : List ℕ
+fours = 24 ∷ 27 ∷ 28 ∷ 29 ∷ 31 ∷ 32 ∷ 33 ∷ 34 ∷ []
+
+module _ (n : Instruction) where
+  -- what a way's operations do, given of each of them
+  does : (w : ℕ) (ks : List ℕ) (f : Context → List ℕ → Effect) → ((k : ℕ) → k < 256 → not (eqb (wayOf k) w) || among k ks ≡ true)
+      → Every (λ k. operationOf (n .form) ≡ k → (v : Context) (ws : List ℕ) → executed v n ws ≡ f v ws) ks
+      → wayOf (operationOf (n .form)) ≡ w → (v : Context) (ws : List ℕ) → executed v n ws ≡ f v ws
+  does w ks f t p e =
+      among-every (λ k. operationOf (n .form) ≡ k → (v : Context) (ws : List ℕ) → executed v n ws ≡ f v ws) ks p (operationOf (n .form))
+      (of-way w (λ k. among k ks) t (operationOf (n .form)) (omega arith) e) refl
+
+  -- one word goes into the accumulator
+  abbrev pub singled : Context → ℕ → Outcome
+  singled v x = intoSingle (operationOf (n .form)) (register (v .regs) (accumulator n)) (operand (v .regs) n x)
+
+  single-does : wayOf (operationOf (n .form)) ≡ 1 → (v : Context) (ws : List ℕ) → executed v n ws ≡ singleOutcome v n (accumulator n) (singled v (getD ws 0 0))
+  unfolding executed ordinary loadOperation integerOperation logicalOperation single singleOutcome intoSingle plain fixedOverflow wayOf
+  single-does =
+      does 1 ones (λ v ws. singleOutcome v n (accumulator n) (singled v (getD ws 0 0))) (passes (λ k. not (eqb (wayOf k) 1) || among k ones) 256 refl)
+      (λ e v ws. rw e refl, (λ e v ws. rw e refl, (λ e v ws. rw e refl, (λ e v ws. rw e refl, (λ e v ws. rw e refl, tt)))))
+
+  -- x is the word read
+  pub does-single : wayOf (operationOf (n .form)) ≡ 1 → (v : Context) (ws : List ℕ) (x : ℕ) → x ≡ getD ws 0 0 → executed v n ws ≡ singleOutcome v n (accumulator n) (singled v x)
+  does-single e v ws x h = single-does e v ws ∙ ap (λ (u : ℕ). singleOutcome v n (accumulator n) (singled v u)) (sym h)
+
+  -- two words go there
+  abbrev pub doubled : Context → ℕ → ℕ → Outcome
+  doubled v x y = intoDouble (operationOf (n .form)) (registerPair (v .regs) (target n)) (doubleOperand (v .regs) n x y)
+
+  double-does : wayOf (operationOf (n .form)) ≡ 2 → (v : Context) (ws : List ℕ)
+      → executed v n ws ≡ doubleOutcome v n (target n) (doubled v (getD ws 0 0) (getD ws 1 0))
+  unfolding executed ordinary loadOperation integerOperation double doubleOutcome intoDouble target plain fixedOverflow wayOf
+  double-does =
+      does 2 twos (λ v ws. doubleOutcome v n (target n) (doubled v (getD ws 0 0) (getD ws 1 0))) (passes (λ k. not (eqb (wayOf k) 2) || among k twos) 256 refl)
+      (λ e v ws. rw e refl, (λ e v ws. rw e refl, (λ e v ws. rw e refl, tt)))
+
+  -- x and y are the words read
+  pub does-double : wayOf (operationOf (n .form)) ≡ 2 → (v : Context) (ws : List ℕ) (x y : ℕ) → x ≡ getD ws 0 0 → y ≡ getD ws 1 0
+      → executed v n ws ≡ doubleOutcome v n (target n) (doubled v x y)
+  does-double e v ws x y h i = rw (h, i) (double-does e v ws)
+
+  -- a word is stored
+  pub does-store : wayOf (operationOf (n .form)) ≡ 3 → (v : Context) (ws : List ℕ) → executed v n ws ≡ stored v n (wordStored (v .regs) n) 0 0
+  unfolding executed ordinary storeOperation wordStored wayOf
+  does-store =
+      does 3 threes (λ v ws. stored v n (wordStored (v .regs) n) 0 0) (passes (λ k. not (eqb (wayOf k) 3) || among k threes) 256 refl)
+      (λ e v ws. rw e refl, (λ e v ws. rw e refl, tt))
+
+  -- on to the derived address or the next instruction
+  pub does-branch : wayOf (operationOf (n .form)) ≡ 4 → (v : Context) (ws : List ℕ) → executed v n ws ≡ jumped v n (isTaken n (csOf (v .sw)))
+  unfolding executed ordinary jumpOperation isTaken wayOf
+  does-branch =
+      does 4 fours (λ v ws. jumped v n (isTaken n (csOf (v .sw)))) (passes (λ k. not (eqb (wayOf k) 4) || among k fours) 256 refl)
+      (λ e v ws. rw e refl, (λ e v ws. rw e refl, (λ e v ws. rw e refl, (λ e v ws. rw e refl, (λ e v ws. rw e refl, (λ e v ws. rw e refl, (λ e v ws. rw e refl, (λ e v ws. rw e refl, tt))))))))

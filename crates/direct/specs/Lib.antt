@@ -1,0 +1,3 @@
+-- The definitions of the operations that are carried out directly.
+pub mod Ways
+pub mod Ended

@@ -1,0 +1,89 @@
+// Two words into the accumulator: DL DA DS (5.39, 5.59, 5.67).
+ghost use mathlib.Core.Path.{_≡_};
+ghost use Prim.Native.Nat.{_<_};
+ghost use lib.ListN.{length};
+ghost use Rattle.fixed.specs.Fixed.{double};
+ghost use Rattle.decode.specs.Forms.{operationOf};
+ghost use Rattle.machine.specs.State.{keyOf, groupOf, joined};
+ghost use Rattle.isa.specs.Words.{registerPair};
+ghost use Rattle.access.specs.Needs.{wayOf};
+ghost use Rattle.direct.specs.Ways.{plain, intoDouble, target};
+ghost use Rattle.direct.specs.Ended.{Ended};
+use crate::Ending;
+use crate::finish::done;
+use crate::finish::refused;
+use crate::operand::read_operand;
+use access::addressing::accumulator_of;
+use access::addressing::double_operand;
+use access::fields::field_a;
+use access::fields::get;
+use access::fields::put;
+use effect::fixed_overflow;
+use effect::following;
+use fixed::Double;
+use fixed::sums::add32;
+use fixed::sums::sub32;
+use machine::Core;
+use machine::Instruction;
+use word::pair::high;
+use word::pair::join;
+use word::pair::low;
+use word::status::status32;
+
+// A double word as it is, and its status.
+fn plain32(x: u32) -> Double
+    ensures { λ r. ⌜ r ≡ double (plain 32 x) ⌝ }
+{
+    Double {
+        value: x,
+        cs: status32(x),
+        overflow: false,
+    }
+}
+
+// What the accumulator a and the operand o come to.
+fn combine32(operation: u16, a: u32, o: u32) -> Double
+    ensures { λ r. ⌜ r ≡ double (intoDouble operation a o) ⌝ }
+{
+    match operation {
+        59 => add32(a, o),
+        67 => sub32(a, o),
+        _ => plain32(o),
+    }
+}
+
+// The first of the two registers.
+fn target_of(n: Instruction) -> u16
+    ensures { λ r. ⌜ (r ≡ target n) × (r < 16) ⌝ }
+{
+    if n.form % 256 == 39 {
+        return accumulator_of(n);
+    }
+    field_a(n.first)
+}
+
+// The operation of the instruction n, whose way is 2.
+pub fn into_double(
+    core: Core,
+    key: u16,
+    group: u16,
+    regs: &mut [u16; 16],
+    memory: &[u16],
+    pages: &[u16],
+    n: Instruction,
+) -> Ending
+    requires { ⌜ (length (now pages) ≡ 512) × (key ≡ keyOf (core .sw)) × (group ≡ groupOf (core .sw)) × (group < 16) × (wayOf (operationOf (n .form)) ≡ 2) ⌝ }
+    ensures { λ r. ⌜ Ended (joined core (now (regs .entry))) (now (memory .entry)) (now (pages .entry)) n (r .clear) (r .fault) (joined (r .core) (now (regs .exit))) (now (memory .entry)) ⌝ }
+{
+    let g = read_operand(key, group, memory, pages, n, 2);
+    if g.clear {
+        let k = target_of(n);
+        let a = join(get(regs, k), get(regs, k + 1));
+        let d = combine32(n.form % 256, a, double_operand(regs, n, g.x, g.y));
+        put(regs, k, high(d.value));
+        put(regs, k + 1, low(d.value));
+        let bits = fixed_overflow(d.overflow);
+        return done(core, following(core.ic, n.form), d.cs, bits);
+    }
+    refused(core, g.fault)
+}

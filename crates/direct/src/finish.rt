@@ -1,0 +1,50 @@
+// How an operation that is carried out directly ends.
+ghost use mathlib.Core.Path.{_≡_};
+ghost use mathlib.Core.Bool.{true, false};
+ghost use mathlib.Core.List.{List};
+ghost use Prim.Native.Nat.{ℕ};
+ghost use lib.Bits.{bitOr};
+ghost use Rattle.machine.specs.State.{joined};
+ghost use Rattle.machine.specs.Machine.{Effect};
+ghost use Rattle.machine.specs.Step.{affected};
+use crate::Ending;
+use interrupt::fields::with_cs;
+use machine::Core;
+
+// It is done: IC and CS are set and PI bits added, as by any effect that does so, whatever the registers were.
+pub fn done(core: Core, ic: u16, cs: u16, bits: u16) -> Ending
+    ensures { λ r. ⌜ (r .clear ≡ true) × ((regs : List ℕ) (e : Effect) → e .ic ≡ ic → e .cs ≡ cs → e .pi ≡ bitOr (core .pi) bits
+        → joined (r .core) (e .regs) ≡ affected (joined core regs) e) ⌝ }
+{
+    let sw = with_cs(core.sw, cs);
+    let after = Core {
+        ic,
+        sw,
+        mk: core.mk,
+        pi: core.pi | bits,
+        ft: core.ft,
+        enabled: core.enabled,
+        hold: core.hold,
+        ta: core.ta,
+        tb: core.tb,
+        taon: core.taon,
+        tbon: core.tbon,
+        count: core.count,
+    };
+    Ending {
+        clear: true,
+        fault: 0,
+        core: after,
+    }
+}
+
+// It is refused, with the FT bit b.
+pub fn refused(core: Core, b: u16) -> Ending
+    ensures { λ r. ⌜ (r .clear ≡ false) × (r .fault ≡ b) ⌝ }
+{
+    Ending {
+        clear: false,
+        fault: b,
+        core,
+    }
+}

@@ -1,0 +1,76 @@
+// One word into the accumulator: L A S OR AND (5.38, 5.55, 5.63, 5.81, 5.82).
+ghost use mathlib.Core.Path.{_≡_};
+ghost use Prim.Native.Nat.{_<_};
+ghost use lib.ListN.{length};
+ghost use Rattle.fixed.specs.Fixed.{single};
+ghost use Rattle.decode.specs.Forms.{operationOf};
+ghost use Rattle.machine.specs.State.{keyOf, groupOf, joined};
+ghost use Rattle.access.specs.Needs.{wayOf};
+ghost use Rattle.direct.specs.Ways.{plain, intoSingle};
+ghost use Rattle.direct.specs.Ended.{Ended};
+use crate::Ending;
+use crate::finish::done;
+use crate::finish::refused;
+use crate::operand::read_operand;
+use access::addressing::accumulator_of;
+use access::addressing::operand_of;
+use access::fields::get;
+use access::fields::put;
+use effect::fixed_overflow;
+use effect::following;
+use fixed::Single;
+use fixed::sums::add16;
+use fixed::sums::sub16;
+use machine::Core;
+use machine::Instruction;
+use word::logic::and;
+use word::logic::or;
+use word::status::status16;
+
+// A word as it is, and its status.
+fn plain16(x: u16) -> Single
+    ensures { λ r. ⌜ r ≡ single (plain 16 x) ⌝ }
+{
+    Single {
+        value: x,
+        cs: status16(x),
+        overflow: false,
+    }
+}
+
+// What the accumulator a and the operand o come to.
+fn combine16(operation: u16, a: u16, o: u16) -> Single
+    ensures { λ r. ⌜ r ≡ single (intoSingle operation a o) ⌝ }
+{
+    match operation {
+        55 => add16(a, o),
+        63 => sub16(a, o),
+        81 => plain16(or(a, o)),
+        82 => plain16(and(a, o)),
+        _ => plain16(o),
+    }
+}
+
+// The operation of the instruction n, whose way is 1.
+pub fn into_single(
+    core: Core,
+    key: u16,
+    group: u16,
+    regs: &mut [u16; 16],
+    memory: &[u16],
+    pages: &[u16],
+    n: Instruction,
+) -> Ending
+    requires { ⌜ (length (now pages) ≡ 512) × (key ≡ keyOf (core .sw)) × (group ≡ groupOf (core .sw)) × (group < 16) × (wayOf (operationOf (n .form)) ≡ 1) ⌝ }
+    ensures { λ r. ⌜ Ended (joined core (now (regs .entry))) (now (memory .entry)) (now (pages .entry)) n (r .clear) (r .fault) (joined (r .core) (now (regs .exit))) (now (memory .entry)) ⌝ }
+{
+    let g = read_operand(key, group, memory, pages, n, 1);
+    if g.clear {
+        let k = accumulator_of(n);
+        let s = combine16(n.form % 256, get(regs, k), operand_of(regs, n, g.x));
+        put(regs, k, s.value);
+        let bits = fixed_overflow(s.overflow);
+        return done(core, following(core.ic, n.form), s.cs, bits);
+    }
+    refused(core, g.fault)
+}

@@ -1,0 +1,64 @@
+// One word stored: ST STC (5.45, 5.46).
+ghost use mathlib.Core.Path.{_≡_};
+ghost use Prim.Native.Nat.{_<_};
+ghost use lib.ListN.{length};
+ghost use Rattle.decode.specs.Forms.{operationOf};
+ghost use Rattle.machine.specs.State.{keyOf, groupOf, joined};
+ghost use Rattle.access.specs.Needs.{wayOf};
+ghost use Rattle.direct.specs.Ways.{wordStored};
+ghost use Rattle.direct.specs.Ended.{Ended};
+use crate::Ending;
+use crate::finish::done;
+use crate::finish::refused;
+use access::addressing::accumulator_of;
+use access::addressing::in_memory;
+use access::fields::field_a;
+use access::fields::get;
+use effect::cs_of;
+use effect::following;
+use machine::Core;
+use machine::Instruction;
+use page::Access;
+use page::Place;
+use page::lookup::look_up;
+
+// The word: the accumulator, or the constant of STC.
+fn word_stored(regs: &[u16; 16], n: Instruction) -> u16
+    ensures { λ r. ⌜ r ≡ wordStored (now (regs .entry)) n ⌝ }
+{
+    if n.form % 256 == 45 {
+        return get(regs, accumulator_of(n));
+    }
+    field_a(n.first)
+}
+
+// The operation of the instruction n, whose way is 3.
+pub fn store_one(
+    core: Core,
+    key: u16,
+    group: u16,
+    regs: &[u16; 16],
+    memory: &mut [u16],
+    pages: &[u16],
+    n: Instruction,
+) -> Ending
+    requires { ⌜ (length (now pages) ≡ 512) × (key ≡ keyOf (core .sw)) × (group ≡ groupOf (core .sw)) × (group < 16) × (wayOf (operationOf (n .form)) ≡ 3) ⌝ }
+    ensures { λ r. ⌜ Ended (joined core (now (regs .entry))) (now (memory .entry)) (now (pages .entry)) n (r .clear) (r .fault) (joined (r .core) (now (regs .entry))) (now (memory .exit)) ⌝ }
+{
+    let next = following(core.ic, n.form);
+    let cs = cs_of(core.sw);
+    if in_memory(n.form / 256 % 16) {
+        let x = word_stored(regs, n);
+        let place = look_up(Access::Write, key, group, pages, memory.len(), n.address);
+        match place {
+            Place::At(p) => {
+                memory[p] = x;
+                return done(core, next, cs, 0);
+            }
+            Place::Refused(b) => {
+                return refused(core, b);
+            }
+        }
+    }
+    done(core, next, cs, 0)
+}
