@@ -11,6 +11,9 @@ RUNS = 'Rattle.machine.specs.Runs.'
 ISA = 'Rattle.isa.specs.Mil1750.'
 ACT = 'Rattle.cpu.proofs.ActLaws.'
 LAWS = 'Rattle.cpu.proofs.StepLaws.'
+TIME = 'Rattle.cpu.proofs.TimeLaws.'
+ENTRIES = 'Rattle.machine.specs.Entries.'
+ENTRY_LAWS = 'Rattle.interrupt.proofs.EntryLaws.{entered-by}'
 FAULTS = 'Rattle.page.specs.Spans.{wrapped}'
 
 
@@ -35,26 +38,23 @@ PREPARED = 'prepared-later (@args .lag) %s (view %s (@args .memory .now) (@args 
 LATER = 'Rattle.interrupt.specs.Later.{later}'
 CHECKED = '← @key-of .ensures .0, ← @group-of .ensures .0, ← @check-span .ensures, @%s .given .1'
 FORM = '(@args .n .form) (@args .need)'
-OFF_BLOCK = '(off-block %s (@Start .pre .6) (@if1 .left))' % FORM
+OFF_BLOCK = '(off-block %s (@Start .pre .6) (@if2 .left))' % FORM
 FROM = ('%s (@args .memory .now) (@args .pages .now) (@args .n) _ _ (@Start .pre .2) (@Start .pre .3) _ _ _ '
         '(reads-by (@args .regs .now) (@args .n) (@args .need) _ _ (@Start .pre .6) %s (@read-start .ensures) (@read-count .ensures .0)) (@gather .ensures)' % (JOINED, OFF_BLOCK))
 TO = '@span-from .ensures ∙ writes-by (@args .regs .now) (@args .n) (@args .need) _ _ (@Start .pre .8) (@Start .pre .2) (@write-start .ensures) (@write-count .ensures .0)'
 STORES = '%s %s (@args .n) _ _ _ _ (@Start .pre .4) (@Start .pre .5) (%s) (@check-span .ensures)' % (JOINED, LISTS, TO)
-# settled after a user's operation, by the call that gave its core; and never after anything else
+# what a user's operation leaves, by the call that gave its core; and what a fault leaves
 def settled(effect):
-    return 'settled-by (@args .core) _ _ (@args .regs .now) _ _ _ (@weighed .ensures .1) (@weighed .ensures .0) (@%s)' % effect
+    return 'settled-by (@args .core) _ _ (@args .regs .now) _ _ (@weighed .ensures .1) (@weighed .ensures .2) (@weighed .ensures .0) (@%s)' % effect
 
 
-def calm(effect, place):
-    return 'calm-after (@args .lag) (@args .core) _ (@args .regs .now) _ _ (@%s) (@Start .pre .%d)' % (effect, place)
+LASTS = '@deny .ensures .2'
 
 
-def never(fact='deny .ensures .0'):
-    return 'λ h. absurd (false≢true (sym (@%s) ∙ h))' % fact
+def failed(ports='(@args .ports .now)', lag='(@args .lag)', kept='refl', regs=''):
+    return 'failed (later %s %s) _ (@args .memory .now) _ (@args .pages .now) %s _ _ (%s) (%s@deny .ensures .1 %s (@args .regs .now))' % (lag, PLAIN, ports, kept, regs, lag)
 
 
-FAILED = 'failed %s _ %%s _ _ (@deny .ensures .1 (@args .regs .now))' % JOINED
-NEVER = 'mathlib.Core.Bool.{false≢true}'
 ASKED = ['not-false (@whole .result) (@if1 .left)', 'eq-eqb _ _ (@if2 .left)', 'eq-eqb _ _ (@if3 .left)', 'le-leb _ _ (@if4 .left)', 'le-leb _ _ (@if5 .left)']
 
 
@@ -63,58 +63,85 @@ def answered(n, last):
     return 'rw (%s) refl' % ', '.join(['← @whole .ensures'] + ASKED[:n] + last)
 
 
+LINKED = '(@link .ensures (@%s .result) refl refl .0) (@link .ensures (@%s .result) refl refl .1 %s refl refl refl)'
+ENTERED = ('enter-unseen (@args .core) (@arrive .result) REGS (@args .memory .now) (@args .pages .now) PORTS _ (@args .n) _ _ (@release .ensures REGS) (@vector .ensures) '
+           '(entered-by (joined (@release .result) REGS) _ (@args .memory .now) _ (@args .pages .now) PORTS (@args .n) _ _ %s (@arrive .ensures REGS))' % (LINKED % ('vector', 'vector', '(joined (@release .result) REGS)')))
+CALLED = 'call-unseen _ _ (@args .regs .now) %s _ _ (@call .ensures (@args .regs .now) (@args .ports .now))' % LISTS
+ATTEMPT = 'attempt-%%s %s (@args .memory .now) (@args .pages .now) (@args .n) _ _ _ (@if1 .%%s) (@try-block .ensures)' % PLAIN
+FINISHED = ATTEMPT % ('done', 'taken')
+HERE = 'Rattle.block.proofs.HereLaws.{attempt-done, attempt-left}'
+
 A = {
     'act/verify': by(STAGES + ' both', use=[STATE + '{keyOf, groupOf}'],
         returns='rw (%s) (@check-span2 .ensures)' % (CHECKED % 'enum-told'), returns_2='rw (%s) refl' % (CHECKED % 'verdict')),
     'act/refuse': by(returns='λ regs. rw (← @advance .ensures) (@fault .ensures regs)'),
-    'act/unsettled': by(returns='(refl, refl)'),
-    'act/weighed': by(use=[TESTS, NEVER], tick_by_requires='@Start .pre',
-        returns='(rw (eq-eqb _ _ (@if1 .taken)) refl, λ h. refl, λ regs. refl)',
-        returns_2='(rw (@unsettled .ensures .1, ne-eqb _ _ (@if1 .left)) refl, %s, λ regs. rw (@unsettled .ensures .1, @unsettled .ensures .0) (@tick-by .ensures regs))' % never('unsettled .ensures .1')),
-    'act/deny': by(use=[STEP + '{faulted}'], tick_by_requires='@Start .pre',
-        returns='(@unsettled .ensures .1, λ regs. rw (@unsettled .ensures .0) (@fault .ensures regs ∙ ap (λ s. faulted s (@args .b) (@args .a)) (@tick-by .ensures regs)))'),
-    'act/carry_block': by(STAGES + ' operated', ISA + ' mil1750 contextOf', use=[NEVER, LATER, ACT + '{carried-clear, carried-fault, failed, became-worked, block-user, settled-by, calm-after}', STATE + '{joined}'],
-        block_requires='(@Start .pre .0, @Start .pre .1, @reads .ensures .0, @reads .ensures .1)', weighed_requires=calm('block .ensures .state-is', 2), deny_requires='@Start .pre .2',
-        returns='(λ ports. rw (← carried-clear %s (@args .memory .now) (@args .pages .now) ports (@args .n) %s (@enum-told .given .1), block-user _ (@Start .pre .1)) '
-            '(became-worked (@args .lag) %s (@args .memory .now) (@args .pages .now) ports (@args .n) _ _ _ _ (@block .ensures) (@weighed .ensures .2 _)), %s)' % (JOINED, VERDICT, PLAIN, settled('block .ensures .state-is')),
-        returns_2='(λ ports. rw (@deny .ensures .0, ← carried-fault %s (@args .memory .now) (@args .pages .now) ports (@args .n) %s _ (@verdict .given .1), ← @advance .ensures) (%s), %s)'
-            % (JOINED, VERDICT, FAILED % '(@args .memory .now) (@args .pages .now) ports', never())),
+    'act/unsettled': by(returns='(refl, refl, refl)'),
+    'act/deny': by(use=[TIME + '{unsettled-lasting, fault-unseen, fault-time}', STATE + '{joined}', 'mathlib.Core.List.{[]}'],
+        returns='(@unsettled .ensures .1, λ n regs. rw (@unsettled .ensures .0) (fault-unseen n (joined (@args .core) regs) _ _ _ (@fault .ensures regs)), '
+            'unsettled-lasting _ _ (@unsettled .ensures .2) (λ h. rw (@unsettled .ensures .0) (fault-time _ _ [] _ _ (@fault .ensures []))))'),
+    'act/carry_words': by(STAGES + ' operated', ISA + ' mil1750 contextOf', use=[LATER, ACT + '{carried-clear, carried-fault, failed, became-worked, block-user, settled-by}', STATE + '{joined}'],
+        block_requires='(@Start .pre .0, @Start .pre .1, @reads .ensures .0, @reads .ensures .1)',
+        returns='(λ lag ports. rw (← carried-clear (later lag %s) (@args .memory .now) (@args .pages .now) ports (@args .n) %s (@enum-told .given .1), block-user _ (@Start .pre .1)) '
+            '(became-worked lag %s (@args .memory .now) (@args .pages .now) ports (@args .n) _ _ _ _ (@block .ensures) (@weighed .ensures .3 _ _)), %s)' % (PLAIN, VERDICT, PLAIN, settled('block .ensures .state-is')),
+        returns_2='(λ lag ports. rw (@deny .ensures .0, ← carried-fault (later lag %s) (@args .memory .now) (@args .pages .now) ports (@args .n) %s _ (@verdict .given .1), ← @advance .ensures) (%s), %s)'
+            % (PLAIN, VERDICT, failed('ports', 'lag'), LASTS)),
+    'act/carry_block': by(STAGES + ' operated', ISA + ' mil1750 contextOf', use=[LATER, ACT + '{carried-clear, became-worked, block-user, settled-by}', HERE, STATE + '{joined}'],
+        try_block_requires='(@Start .pre .0, @Start .pre .2, @Start .pre .3, @Start .pre .4)', carry_words_requires='(@Start .pre .0, @Start .pre .1)',
+        returns='(λ lag ports. rw (← carried-clear (later lag %s) (@args .memory .now) (@args .pages .now) ports (@args .n) _ _ _ refl refl refl (%s .admitted), block-user _ (@Start .pre .1)) '
+            '(became-worked lag %s (@args .memory .now) (@args .pages .now) ports (@args .n) _ _ _ _ (%s .worked) (@weighed .ensures .3 _ _)), %s)' % (PLAIN, FINISHED, PLAIN, FINISHED, settled('').replace('@)', FINISHED + ' .worked .state-is)')),
+        returns_2='rw (← %s .0, ← %s .1) (@carry-words .ensures)' % (ATTEMPT % ('left', 'left'), ATTEMPT % ('left', 'left'))),
+    'act/carry_direct': by(STAGES + ' operated', ISA + ' mil1750 contextOf', use=[LATER, ACT + '{carried-clear, carried-fault, failed, became-worked, settled-by}', STATE + '{joined}'],
+        direct_requires='(@Start .pre .0, @Start .pre .1, @Start .pre .2, @Start .pre .3, @Start .pre .4, @Start .pre .5)',
+        returns='(λ lag ports. rw (← carried-clear (later lag %s) (@args .memory .now) (@args .pages .now) ports (@args .n) _ _ _ refl refl refl (@direct .ensures .when-clear (@if1 .taken) .0), @direct .ensures .by-user) '
+            '(became-worked lag %s (@args .memory .now) (@args .pages .now) ports (@args .n) _ _ _ _ (@direct .ensures .when-clear (@if1 .taken) .1) (@weighed .ensures .3 _ _)), %s)'
+            % (PLAIN, PLAIN, settled('direct .ensures .when-clear (@if1 .taken) .1 .state-is')),
+        returns_2='let k = @direct .ensures .when-refused (@if1 .left) in '
+            '(λ lag ports. rw (@deny .ensures .0, ← carried-fault (later lag %s) (@args .memory .now) (@args .pages .now) ports (@args .n) _ _ _ refl refl refl _ (k .0), ← @advance .ensures) (%s), %s)'
+            % (PLAIN, failed('ports', 'lag', 'k .2', 'ap (λ r. later lag (joined (@deny .result .core) r)) (k .1) ∙ '), LASTS)),
     'act/govern': by(use=[ACT + '{governed-done, governed-refused}']),
-    'act/call': by(STEP + ' perform', STATE + ' withIc advanced',
-        returns='λ regs ports. rw (← @call-vector .ensures, ← @advance .ensures) (@enter .ensures regs ports)'),
-    'act/operate': by(STAGES + ' operated', ISA + ' mil1750 contextOf', use=[NEVER, LATER, ACT + '{few-written, worked-ordinary, first-three, became-worked, governed-at, called-at, settled-by, calm-after}', STATE + '{joined, keyOf, groupOf}', LENGTH,
-            'Rattle.page.specs.Spans.{wordsOf}', 'Rattle.isa.specs.Accesses.{readsOf}'],
-        work_requires='(@Start .pre .0, rw (@Start .pre .4) (few-written (@args .regs .now) (@args .n) (@Start .pre .2)))', weighed_requires=calm('work .ensures .0', 5),
-        tick_by_requires='@Start .pre .5', tick_by_requires_2='@Start .pre .5',
+    'act/call': by(STEP + ' perform', ENTRIES + ' arrived', STATE + ' withIc withSw withMk withPi withFt withEnabled advanced', use=[ENTRY_LAWS, STATE + '{joined}'],
+        returns='λ regs ports. rw (← @call-vector .ensures, ← @advance .ensures) (entered-by (withIc (joined (@args .core) regs) (@advance .result)) _ (@args .memory .now) _ (@args .pages .now) ports 5 _ _ %s (@arrive .ensures regs))'
+            % (LINKED % ('call-vector', 'call-vector', '(withIc (joined (@args .core) regs) (@advance .result))'))),
+    'act/command': by(use=[TIME + '{unsettled-lasting, command-late, behind-calm}', 'mathlib.Core.List.{[]}'], tick_by_requires='behind-calm (@sees-time .result) _ _ (@args .core) (@behind .ensures) (@Start .pre .2)'),
+    'act/operate': by(STAGES + ' operated', ISA + ' mil1750 contextOf', use=[LATER, ACT + '{few-written, worked-ordinary, first-three, became-worked, settled-by}', TIME + '{unsettled-lasting, call-unseen}',
+            STATE + '{joined, keyOf, groupOf}', LENGTH, 'Rattle.page.specs.Spans.{wordsOf}', 'Rattle.isa.specs.Accesses.{readsOf}'],
+        work_requires='(@Start .pre .0, rw (@Start .pre .4) (few-written (@args .regs .now) (@args .n) (@Start .pre .2)))', command_requires='(@Start .pre .0, @Start .pre .1, @Start .pre .5)',
         returns='(' + CLASS % 'enum-told .given .1' + '(became-worked (@args .lag) %s %s (@args .n) _ _ _ _ (worked-ordinary %s (@args .memory .now) (@args .pages .now) (@args .n) _ _ _ _ (@args .to) _ _ '
-            '(@Start .pre .2) (@Start .pre .3) (@Start .pre .4) (@work .ensures .0) (@work .ensures .1)) (@weighed .ensures .2 _)), %s)' % (PLAIN, LISTS, PLAIN, settled('work .ensures .0')),
-        returns_2='(' + CLASS % ('enum-told2 .given .1, @unsettled .ensures .1, @unsettled .ensures .0') + '(rw (← first-three %s (@args .pages .now) (@args .ports .now) (@args .n) %s _ _ _ (@Start .pre .3)) '
-            '(governed-at _ _ %s (@args .n) _ _ _ _ (@tick-by .ensures %s) (@govern .ensures (@args .memory .now)))), %s)'
-            % (JOINED, WORDS % '(readsOf (@args .regs .now) (@args .n))', LISTS, REGS, never('unsettled .ensures .1')),
-        returns_3='(' + CLASS % ('enum-told3 .given .1, @unsettled2 .ensures .1, @unsettled2 .ensures .0') + '(called-at _ _ %s _ _ _ (@tick-by2 .ensures %s) (@call .ensures (@args .regs .now) (@args .ports .now))), %s)'
-            % (LISTS, REGS, never('unsettled2 .ensures .1'))),
-    'act/proceed': by(use=[NEVER, LATER, ACT + '{writes-by, accessed-clear, accessed-fault, failed}', STATE + '{joined}'],
-        check_span_requires='(@Start .pre .0, @Start .pre .6)', deny_requires='@Start .pre .7', write_start_requires='@Start .pre .8', write_count_requires='@Start .pre .8',
+            '(@Start .pre .2) (@Start .pre .3) (@Start .pre .4) (@work .ensures .0) (@work .ensures .1)) (@weighed .ensures .3 _ _)), %s)' % (PLAIN, LISTS, PLAIN, settled('work .ensures .0')),
+        returns_2='(' + CLASS % 'enum-told2 .given .1' + '(rw (← first-three %s (@args .pages .now) (@args .ports .now) (@args .n) %s _ _ _ (@Start .pre .3)) (@command .ensures .0 (@args .memory .now))), @command .ensures .1)'
+            % (JOINED, WORDS % '(readsOf (@args .regs .now) (@args .n))'),
+        returns_3='(' + CLASS % 'enum-told3 .given .1, @unsettled .ensures .1, @unsettled .ensures .0' + '(%s .0 (@args .lag)), unsettled-lasting _ _ (@unsettled .ensures .2) (λ h. rw (@unsettled .ensures .0) (%s .1)))' % (CALLED, CALLED)),
+    'act/proceed': by(use=[LATER, ACT + '{writes-by, accessed-clear, accessed-fault, failed}', STATE + '{joined}'],
+        check_span_requires='(@Start .pre .0, @Start .pre .6)', write_start_requires='@Start .pre .8', write_count_requires='@Start .pre .8',
         operate_requires='(@Start .pre .0, @Start .pre .1, @Start .pre .2, @Start .pre .3, %s, @Start .pre .7)' % TO,
         returns='(rw (← accessed-clear %s (@enum-told .given .1)) (@operate .ensures .0), @operate .ensures .1)' % STORES,
-        returns_2='(rw (@deny .ensures .0, ← accessed-fault %s _ (@verdict .given .1), ← @advance .ensures) (%s), %s)' % (STORES, FAILED % LISTS, never())),
-    'act/carry': by(use=[NEVER, LATER, ACT + '{on-block, off-block, reads-by, words-read, carried-read, carried-denied, failed}', STATE + '{joined}'],
-        carry_block_requires='(@Start .pre .0, on-block %s (@Start .pre .6) (@if1 .taken), @Start .pre .5)' % FORM, deny_requires='@Start .pre .5',
+        returns_2='(rw (@deny .ensures .0, ← accessed-fault %s _ (@verdict .given .1), ← @advance .ensures) (%s), %s)' % (STORES, failed(), LASTS)),
+    'act/carry': by(use=[LATER, OMEGA, ACT + '{on-block, off-block, reads-by, words-read, carried-read, carried-denied, failed}', STATE + '{joined}', 'Rattle.access.proofs.NeedsLaws.{way-told}'],
+        carry_direct_requires='(@Start .pre .0, @Start .pre .2, @Start .pre .3, @Start .pre .4, way-told %s (@Start .pre .6), omega (arith, @if1 .taken))' % FORM,
+        carry_block_requires='(@Start .pre .0, on-block %s (@Start .pre .6) (@if2 .taken), @Start .pre .2, @Start .pre .3, @Start .pre .4)' % FORM,
         read_start_requires='@Start .pre .6', read_count_requires='@Start .pre .6',
         gather_requires='(@Start .pre .0, @Start .pre .4, @read-count .ensures .1)',
-        proceed_requires='(@Start .pre .0, @Start .pre .1, %s, words-read %s (@if2 .taken), @Start .pre .2, @Start .pre .3, @Start .pre .4, @Start .pre .5, @Start .pre .6)' % (OFF_BLOCK, FROM),
-        returns='(@carry-block .ensures .0 (@args .ports .now), @carry-block .ensures .1)',
-        returns_2='(rw (← carried-read %s (@args .ports .now) (@if2 .taken)) (@proceed .ensures .0), @proceed .ensures .1)' % FROM,
-        returns_3='(rw (@deny .ensures .0, ← carried-denied %s (@args .ports .now) (@if2 .left), ← @advance .ensures) (%s), %s)' % (FROM, FAILED % LISTS, never())),
-    'act/instruct': by(STAGES + ' instructed carried', use=[NEVER, LATER, ACT + '{failed, prepared-later}', STAGES + '{view}', STATE + '{joined}'],
-        prepare_requires='(@Start .pre .0, @Start .pre .3, @Start .pre .4, @Start .pre .5, @Start .pre .2)', deny_requires='@Start .pre .6', need_with_requires='@Start .pre .7',
+        proceed_requires='(@Start .pre .0, @Start .pre .1, %s, words-read %s (@if3 .taken), @Start .pre .2, @Start .pre .3, @Start .pre .4, @Start .pre .5, @Start .pre .6)' % (OFF_BLOCK, FROM),
+        returns='(@carry-direct .ensures .0 (@args .lag) (@args .ports .now), @carry-direct .ensures .1)',
+        returns_2='(@carry-block .ensures .0 (@args .lag) (@args .ports .now), @carry-block .ensures .1)',
+        returns_3='(rw (← carried-read %s (@args .ports .now) (@if3 .taken)) (@proceed .ensures .0), @proceed .ensures .1)' % FROM,
+        returns_4='(rw (@deny .ensures .0, ← carried-denied %s (@args .ports .now) (@if3 .left), ← @advance .ensures) (%s), %s)' % (FROM, failed(), LASTS)),
+    'act/instruct': by(STAGES + ' instructed carried', use=[LATER, ACT + '{failed, prepared-later}', STAGES + '{view}', STATE + '{joined}'],
+        prepare_requires='(@Start .pre .0, @Start .pre .3, @Start .pre .4, @Start .pre .5, @Start .pre .2)', need_with_requires='@Start .pre .7',
         carry_requires='(@Start .pre .0, @Start .pre .1, @Start .pre .3, @Start .pre .4, @Start .pre .5, @Start .pre .6, @need-with .ensures)',
         returns='(rw (%s, @prepared .given .1) (@carry .ensures .0), @carry .ensures .1)' % PREPARED,
-        returns_2='(rw (@deny .ensures .0, %s, @prepared2 .given .1) (%s), %s)' % (PREPARED, FAILED % LISTS, never())),
-    'run/interrupted': by(STEP + ' perform', use=[LAWS + '{entry-step}', STATE + '{joined}', MACHINE + '{machine}', ISA + '{mil1750}'],
-        returns='λ regs ports e. entry-step mil1750 (machine (joined (@args .core) regs) (@args .memory .now) (@args .pages .now) ports) _ e _ _ regs _ _ ports (@tick .ensures) (@Start .pre .1) '
-            '(rw (← @release .ensures regs, ← @vector .ensures) (@enter .ensures regs ports))'),
-    'run/spare': by(use=[OMEGA], returns='(rw (@if1 .taken) refl, omega arith, λ h. absurd (omega arith))', returns_2='(rw (@if1 .left) refl, omega arith, λ h. @if1 .left)'),
+        returns_2='(rw (@deny .ensures .0, %s, @prepared2 .given .1) (%s), %s)' % (PREPARED, failed(), LASTS)),
+    'run/interrupted': by(use=[ENTRY_LAWS, STATE + '{joined}', TIME + '{enter-unseen}', 'mathlib.Core.List.{[]}'],
+        returns='(λ lag regs ports. %s .0 lag, %s .1)' % (ENTERED.replace('REGS', 'regs').replace('PORTS', 'ports'), ENTERED.replace('REGS', '[]').replace('PORTS', '[]'))),
+    'run/end_of': by(use=[OMEGA], returns='(rw (@if1 .taken) refl, omega arith, omega arith, λ h. absurd (omega arith))',
+        returns_2='(rw (@if1 .left) refl, omega arith, omega arith, λ h. @if1 .left)'),
+    'run/obey': {},
+    'run/turn': by(use=[OMEGA, LATER, LAWS + '{entry-made}', STATE + '{joined}', MACHINE + '{machine}', ISA + '{mil1750}'],
+        obey_requires='(@Start .pre .0, @Start .pre .1, @Start .pre .2, @Start .pre .3, @Start .pre .4, @Start .pre .5, rw (← @choose .ensures %s refl refl refl refl) (@if1 .left))' % PLAIN,
+        returns='record { onward = omega arith; within = omega (arith, @Start .pre .4); time-kept = λ h. @interrupted .ensures .1; '
+            'made = entry-made mil1750 (machine %s %s) _ (@args .lag) (@choose .ensures %s refl refl refl refl) (@if1 .taken) (joined (@interrupted .result) %s) _ _ _ '
+            '(@interrupted .ensures .0 (@args .lag) %s (@args .ports .now)) }' % (JOINED, LISTS, JOINED, REGS, REGS),
+        returns_2='@obey .ensures'),
     'run/go_on': {},
     'run/whole': by(RUNS + ' wholePages', use=[TESTS],
         returns='rw (eq-eqb _ _ (@if1 .taken), le-leb _ _ (@if2 .taken)) refl', returns_2='rw (eq-eqb _ _ (@if1 .taken), lt-leb _ _ (@if2 .left)) refl',
@@ -132,63 +159,74 @@ for first, at in (('returns', 'governed'), ('returns-2', 'governed2')):
     rest = '_ (@%s .given .1)' % at if first == 'returns' else '_ _ (@%s .given .1) (@supervise .ensures .1, @supervise .ensures .2, @supervise .ensures .3) (@refuse .ensures)' % at
     A['act/govern'][first] = (
         'λ memory. %s (@args .core) memory (@args .n) (@args .regs .now) _ (@args .pages .now) _ (@args .ports .now) _ (@supervise .result) _ (@supervise .ensures .0) %s' % (law, rest))
+COMMAND = ('command-late (@args .lag) _ _ _ _ (@args .regs .now) %s (@args .pages .now) (@args .ports .now) _ _ _ (@args .n) _ (@sees-time .result) (@sees-time .ensures) (@behind .ensures) '
+           '(@tick-by .ensures (@args .regs .now)) (@govern .ensures %s)')
+A['act/command']['returns'] = ('(λ memory. rw (@unsettled .ensures .1, @unsettled .ensures .0) (%s .0), unsettled-lasting _ _ (@unsettled .ensures .2) (rw (@unsettled .ensures .1, @unsettled .ensures .0) (%s .1)))'
+    % (COMMAND % ('memory', 'memory'), COMMAND % ('[]', '[]')))
 HERE = '(machine (joined (l .t) (l .regs)) (l .memory) (l .pages) (l .ports))'
 # the lengths of the lists after a call, by its argument at this place, the first of the three
 def lengths(call, place):
     return ', '.join('@%s .kept %s.0 ∙ l .inv .%d' % (call, '.1 ' * (place + k), k) for k in range(3))
 
 
-TURN = 'rw (l .inv .%%d, steps-step mil1750 (l .due) %s (@loop-test .taken), ← became-machine (%%s)) refl' % HERE
-GIVEN_LISTS = '(@args .memory .now) (@args .pages .now) (@args .ports .now)'
-BEGUN = 'going-start mil1750 (@args .n) (machine (joined (@args .core) (@args .regs .now)) %s) _ (@release .ensures (@args .regs .now)) (@Start .pre .6) (@Start .pre .7)' % GIVEN_LISTS
+ROW = ('mil1750 (@args .from) (l .lag) (l .inv .3) (later (@args .from) (joined (@release .result) (@args .regs .now))) (later (l .lag) (joined (l .t) (l .regs))) %s '
+       '(l .memory) (l .pages) (l .ports) (l .inv .12) (@instruct .result .lagging) (@instruct .result .core) _ _ _ _ (@instruct .ensures .0)' % LISTS)
+A['run/obey'] = {
+    'use': [EQUATIONS, OMEGA, TESTS, LENGTH, 'Prim.Native.Nat.{ℕ, _+_, _≤_, _<_, _-_}', STATE + '{keyOf, groupOf, joined}', ISA + '{mil1750}', 'mathlib.Core.Bool.{false}', 'Rattle.machine.specs.Entries.{chosen}',
+            'Rattle.interrupt.specs.Later.{Calm, later}', 'Rattle.interrupt.proofs.LaterLaws.{calm-fewer}',
+            'Rattle.cpu.specs.Settled.{SameTime}', TIME + '{same-here, same-onward, calm-same}',
+            LAWS + '{going, row-made, row-on, sw-released, hold-released, time-released, later-released, chosen-released, chosen-later, chosen-settled}'],
+    'Inv-loop': '(length memory ≡ length memory₀) × (length pages ≡ length pages₀) × (length ports ≡ length ports₀) × (lag₀ ≤ lag) × (lag < end) × (end ≤ most) × '
+        '(key ≡ keyOf (t .sw)) × (group ≡ groupOf (t .sw)) × (t .hold ≡ false) × Calm (most - 1) t × (lag + 1 < end → 16 ≤ chosen (joined t regs)) × SameTime t₀ t × '
+        '((k : ℕ) → going mil1750 (k + (lag - lag₀)) (later lag₀ (joined t₀ regs₀)) memory₀ pages₀ ports₀ ≡ going mil1750 k (later lag (joined t regs)) memory pages ports)',
+    'μ-loop': 'end - lag', 'default': 'omega arith', 'end-of-requires': '@Start .pre .4',
+    'loop-holds': '(refl, refl, refl, omega arith, @end-of .ensures .1, @end-of .ensures .2, @key-of .ensures .0 ∙ ap keyOf (sw-released _ _ (@release .ensures)), '
+        '@group-of .ensures .0 ∙ ap groupOf (sw-released _ _ (@release .ensures)), hold-released _ _ (@release .ensures), calm-same _ _ _ (time-released _ _ (@release .ensures)) (@Start .pre .5), '
+        'λ h. rw (chosen-released _ _ (@release .ensures) (@end-of .ensures .3 h) %s) (@Start .pre .6), same-here _, '
+        'λ k. ap (λ j. going mil1750 j (later (@args .from) (joined (@release .result) %s)) %s) (omega arith))' % (REGS, REGS, LISTS),
+    'instruct-requires': '(omega arith, omega arith, @Start .pre .2, @loop .inv .6, @loop .inv .7, @group-of .ensures .1, calm-fewer _ _ _ (omega (arith, @loop .inv .4, @loop .inv .5)) (@loop .inv .9), @Start .pre .3)',
+    'add-lag': 'omega (arith, @loop .inv .4)', 'loop-less': 'omega (arith, @loop .inv .4)',
+    'loop-again': 'let l = @loop in let y = not-false (@instruct .result .settled) (@if1 .left) in let z = @instruct .ensures .1 in let s = z .choice-kept y in let w = z .time-kept (z .lags y) in '
+        '(%s, omega (arith, l .inv .3), @if2 .left, l .inv .5, l .inv .6 ∙ sym (s .key-kept), l .inv .7 ∙ sym (s .group-kept), s .hold-kept ∙ l .inv .8, calm-same _ _ _ w (l .inv .9), '
+        'λ h. rw (chosen-settled _ _ s (l .regs) _) (l .inv .10 (@if2 .left)), same-onward _ _ _ (l .inv .11) w, '
+        'row-on %s (z .lags y) (s .hold-kept ∙ l .inv .8) (rw (chosen-settled _ _ s (l .regs) _) (l .inv .10 (@if2 .left))) '
+        '(calm-fewer _ _ _ (omega (arith, @if2 .left, l .inv .5)) (calm-same _ _ _ w (l .inv .9))))' % (lengths('instruct', 5), ROW)}
+for need, call in (('returns', 'ended'), ('returns-2', 'ended2')):
+    A['run/obey'][need] = ('let l = @loop in rw (@%s .ensures) (record { onward = omega (arith, l .inv .3); within = omega (arith, l .inv .4, l .inv .5); '
+        'time-kept = λ h. same-onward _ _ _ (time-released _ _ (@release .ensures)) (same-onward _ _ _ (l .inv .11) (@instruct .ensures .1 .time-kept h)); '
+        'made = row-made %s (later (@args .from) %s) (later-released _ _ (@release .ensures) (@args .from) %s) (rw (chosen-later (@args .from) %s) (@Start .pre .6)) })' % (call, ROW, PLAIN, REGS, PLAIN))
 MOST = '(@quiet .result + 1)'
-LAG = '(%s - l .left)' % MOST
-AT = 'mil1750 (@args .n - (%s + 1)) (later %s (joined (l .t) (l .regs))) (l .memory) (l .pages) (l .ports) %s (@instruct .result .settled) (@instruct .result .core) _ _ _ _ (@instruct .ensures .0)' % (LAG, LAG, LAG)
-LATE = 'l .inv .11 (@loop-test .taken) ∙ going-late %s y' % AT
-SAME = 'equal-steps mil1750 _ %s _ %s (joined %s _) _ _ _ %s %s'
-TOLD = '(@args .n) %s (l .left) (@loop-test .taken) (l .inv .3)' % MOST
-GOES = 'going mil1750 (n - 1) (joined t₀ regs₀) memory₀ pages₀ ports₀ ≡ '
+LAGS = '(not-false (@turn .result .lagging) (@if1 .left))'
+STRETCH = ('mil1750 (machine (later (l .lag) (joined (l .t) (l .regs))) (l .memory) (l .pages) (l .ports)) _ (@args .n) (l .lag) (@turn .result .lag) (@turn .ensures .onward) '
+           '(omega (arith, @turn .ensures .within, l .inv .4)) (l .inv .6) (@turn .result .lagging) (@turn .result .core) _ _ _ _ (@turn .ensures .made)')
+STILL = 'calm-same _ _ _ (@turn .ensures .time-kept %s) (l .inv .5)' % LAGS
+FEWER = 'omega (arith, @turn .ensures .onward, @turn .ensures .within, l .inv .4)'
 A['run/go_on'] = {
-    'use': [EQUATIONS, OMEGA, TESTS, LENGTH, 'Prim.Native.Nat.{_+_, _≤_, _<_, _-_}', STATE + '{keyOf, groupOf, joined}', MACHINE + '{machine}', RUNS + '{steps}', ISA + '{mil1750}',
-            'mathlib.Core.Bool.{false}', 'Rattle.machine.specs.Entries.{chosen}', STEP + '{ticked}', 'Rattle.interrupt.specs.Later.{Calm, later}', 'Rattle.interrupt.proofs.LaterLaws.{calm-fewer}',
-            LAWS + '{going, going-start, going-first, going-end, going-late, going-on, equal-steps, lag-next, lag-before, rest-next, rest-after, sw-released, hold-released, chosen-released, calm-released, chosen-settled, calm-settled}'],
-    'Inv-loop': '(length memory ≡ length memory₀) × (length pages ≡ length pages₀) × (length ports ≡ length ports₀) × (left ≤ most) × (0 < most) × (most ≤ n) × '
-        '(key ≡ keyOf (t .sw)) × (group ≡ groupOf (t .sw)) × (t .hold ≡ false) × Calm (most - 1) t × (1 < most → 16 ≤ chosen (joined t regs)) × '
-        '(0 < left → ' + GOES + 'going mil1750 (n - (most - left + 1)) (later (most - left) (joined t regs)) memory pages ports) × '
-        '(left < most → ' + GOES + 'steps mil1750 (n - (most - left)) (machine (ticked (later (most - left - 1) (joined t regs))) memory pages ports))',
-    'μ-loop': 'left', 'default': 'omega arith',
-    'sub-spare': 'omega (arith, @Start .pre .6)', 'add-most': 'omega (arith, @quiet .ensures .1, @spare .ensures .1)',
-    'loop-holds': '(refl, refl, refl, omega arith, omega arith, omega (arith, @quiet .ensures .1, @spare .ensures .1, @Start .pre .6), '
-        '@Start .pre .3 ∙ ap keyOf (sw-released _ _ (@release .ensures)), @Start .pre .4 ∙ ap groupOf (sw-released _ _ (@release .ensures)), hold-released _ _ (@release .ensures), '
-        'calm-fewer _ _ _ (omega arith) (calm-released _ _ (@release .ensures) _ (@quiet .ensures .2)), '
-        'λ h. rw (chosen-released _ _ (@release .ensures) (@spare .ensures .2 (omega (arith, h, @quiet .ensures .1))) (@args .regs .now)) (@Start .pre .7), '
-        'λ h. going-first mil1750 (@args .n) (%s - %s) (joined (@release .result) (@args .regs .now)) %s (omega arith), λ h. absurd (omega arith))' % (MOST, MOST, GIVEN_LISTS),
-    'instruct-requires': '(omega arith, omega arith, @Start .pre .2, @loop .inv .6, @loop .inv .7, @Start .pre .5, calm-fewer _ _ _ (omega (arith, @loop-test .taken, @loop .inv .3)) (@loop .inv .9), @Start .pre .8)',
-    'loop-again': 'let l = @loop in let y = not-false (@instruct .result .settled) (@if1 .left) in let s = @instruct .ensures .1 y in '
-        '(%s, omega arith, l .inv .4, l .inv .5, l .inv .6 ∙ sym (s .key-kept), l .inv .7 ∙ sym (s .group-kept), s .hold-kept ∙ l .inv .8, calm-settled _ _ s _ (l .inv .9), '
-        'λ h. rw (chosen-settled _ _ s (l .regs) _) (l .inv .10 h), '
-        'λ h. %s ∙ going-on mil1750 _ (@args .n - (%s - (l .left - 1) + 1)) _ (%s - (l .left - 1)) _ _ _ _ _ (rest-after %s h (l .inv .5)) (lag-next %s) (s .hold-kept ∙ l .inv .8) '
-        '(rw (chosen-settled _ _ s (l .regs) _) (l .inv .10 (omega (arith, h, l .inv .3)))) (calm-fewer _ _ _ (omega (arith, h, l .inv .3)) (calm-settled _ _ s _ (l .inv .9))), '
-        'λ h. %s ∙ %s)' % (lengths('instruct', 5), LATE, MOST, MOST, TOLD, TOLD, LATE,
-            SAME % ('(@args .n - (%s - (l .left - 1)))' % MOST, '(%s - (l .left - 1) - 1)' % MOST, '(@instruct .result .core)', '(rest-next %s)' % TOLD, '(lag-before %s)' % TOLD)),
-    'returns': 'let l = @loop in (omega arith, %s ∙ l .inv .11 (@loop-test .taken) ∙ going-end %s _ (@tick .ensures) (not-true (@instruct .result .settled) (@if1 .taken)) (@args .n - (%s - (l .left - 1))) (rest-next %s))' % (BEGUN, AT, MOST, TOLD),
-    'tick-by-requires': 'calm-fewer _ _ _ (omega arith) (@loop .inv .9)',
-    'returns-2': 'let l = @loop in (omega arith, %s ∙ l .inv .12 (omega arith) ∙ %s ∙ '
-        'sym (ap (λ s. steps mil1750 (@args .n - %s) (machine s (l .memory) (l .pages) (l .ports))) (@tick2 .ensures (l .regs) ∙ ap ticked (@tick-by .ensures (l .regs)))))' % (BEGUN, SAME % ('(@args .n - %s)' % MOST, '(%s - 1)' % MOST, '(l .t)', '(omega arith)', '(omega arith)'), MOST)}
-CHOSEN = '(@choose .ensures (joined (@loop .t) (@loop .regs)) refl refl refl refl)'
-for place in range(3):
-    A['run/go_on'][('same-length', 'same-length-2', 'same-length-3')[place]] = 'let l = @loop in ' + lengths('instruct', 5).split(', ')[place]
-    A['run/go_on'][('same-length-4', 'same-length-5', 'same-length-6')[place]] = '@loop .inv .%d' % place
+    'use': [EQUATIONS, OMEGA, TESTS, LENGTH, 'Prim.Native.Nat.{_+_, _≤_, _<_, _-_}', STATE + '{joined}', MACHINE + '{machine}', RUNS + '{steps}', ISA + '{mil1750}',
+            'Rattle.interrupt.specs.Later.{Calm, later}', 'Rattle.interrupt.proofs.LaterLaws.{calm-fewer}', TIME + '{calm-same}', LAWS + '{stretch-start, stretch-cut, stretch-end, stretch-on}'],
+    'Inv-loop': '(length memory ≡ length memory₀) × (length pages ≡ length pages₀) × (length ports ≡ length ports₀) × (lag < most) × (most ≤ n) × Calm (most - 1) t × '
+        '(steps mil1750 n (machine (joined t₀ regs₀) memory₀ pages₀ ports₀) ≡ steps mil1750 (n - lag) (machine (later lag (joined t regs)) memory pages ports))',
+    'μ-loop': 'most - lag', 'default': 'omega arith', 'sub-quiet': 'omega (arith, @Start .pre .4)', 'add-most': 'omega (arith, @quiet .ensures .1)',
+    'loop-holds': '(refl, refl, refl, omega arith, omega (arith, @quiet .ensures .1, @Start .pre .4), calm-fewer _ _ _ (omega arith) (@quiet .ensures .2), '
+        'stretch-start mil1750 (@args .n) 0 %s %s refl)' % (PLAIN, LISTS),
+    'turn-requires': '(omega arith, omega arith, @Start .pre .2, @Start .pre .3, @loop .inv .3, @loop .inv .5)',
+    'sub-t25': 'omega (arith, @turn .ensures .within, @loop .inv .4)', 'sub-t26': 'omega (arith, @loop .inv .4)', 'sub-tick-by': 'omega arith',
+    'returns': 'let l = @loop in (%s, stretch-cut %s (not-true (@turn .result .lagging) (@if1 .taken)) _ (@tick .ensures))' % (FEWER, STRETCH),
+    'tick-by-requires': 'let l = @loop in ' + STILL,
+    'returns-2': 'let l = @loop in (omega (arith, l .inv .4), stretch-end %s %s %s (omega (arith, @turn .ensures .within, @if2 .taken)) _ _ (@tick-by .ensures) (@tick2 .ensures))' % (STRETCH, LAGS, MOST),
+    'loop-less': 'omega (arith, @turn .ensures .onward, @turn .ensures .within, @loop .inv .3)',
+    'loop-again': 'let l = @loop in (%s, @if2 .left, l .inv .4, %s, stretch-on %s %s (calm-fewer _ _ _ (omega (arith, @if2 .left)) (%s)))' % (lengths('turn', 4), STILL, STRETCH, LAGS, STILL)}
+for place in range(6):
+    for fn, call, first in (('run/obey', 'instruct', 5), ('run/go_on', 'turn', 4)):
+        A[fn]['same-length' + ('' if place == 0 else '-%d' % (place + 1))] = 'let l = @loop in ' + lengths(call, first).split(', ')[place % 3]
 A['run/run_steps'] = {
-    'use': [EQUATIONS, OMEGA, LENGTH, STATE + '{joined}', MACHINE + '{machine}', RUNS + '{steps}', ISA + '{mil1750}', LAWS + '{steps-none, steps-step}',
-            'Rattle.machine.proofs.MachineLaws.{became-machine, machine-became}'],
+    'use': [EQUATIONS, OMEGA, LENGTH, STATE + '{joined}', MACHINE + '{machine}', RUNS + '{steps}', ISA + '{mil1750}', LAWS + '{steps-none}',
+            'Rattle.machine.proofs.MachineLaws.{machine-became}'],
     'Inv-loop': '(length memory ≡ length memory₀) × (length pages ≡ length pages₀) × (length ports ≡ length ports₀) × '
         '(steps mil1750 due₀ (machine (joined t₀ regs₀) memory₀ pages₀ ports₀) ≡ steps mil1750 due (machine (joined t regs) memory pages ports))',
     'μ-loop': 'due', 'loop-holds': '(refl, refl, refl, refl)', 'default': 'omega arith',
-    'interrupted-requires': '(omega arith, @if1 .taken)',
-    'go-on-requires': '(omega arith, omega arith, @Start .pre .2, @key-of .ensures .0, @group-of .ensures .0, @group-of .ensures .1, @loop-test .taken, rw (← %s) (@if1 .left), @Start .pre .3)' % CHOSEN,
-    'loop-again': 'let l = @loop in (@interrupted .kept .1 .0 ∙ l .inv .0, l .inv .1, l .inv .2, %s)' % (TURN % (3, '@interrupted .ensures (l .regs) (l .ports) ' + CHOSEN)),
-    'loop-again-2': 'let l = @loop in (%s, l .inv .3 ∙ @go-on .ensures .1)' % lengths('go-on', 4),
+    'go-on-requires': '(omega arith, omega arith, @Start .pre .2, @Start .pre .3, @loop-test .taken)',
+    'loop-again': 'let l = @loop in (%s, l .inv .3 ∙ @go-on .ensures .1)' % lengths('go-on', 2),
     'same-length': '@loop .inv .0', 'same-length-2': '@loop .inv .1', 'same-length-3': '@loop .inv .2',
     'returns': 'let l = @loop in machine-became (sym (l .inv .3 ∙ steps-none mil1750 (l .due) %s (@loop-test .left)))' % HERE}
 GIVEN = '(machine (@args .state) (@args .memory .now) (@args .pages .now) (@args .ports .now))'

@@ -24,7 +24,7 @@ use Rattle.machine.specs.declared.Class.the-variants.{User}
 use Rattle.machine.specs.declared.Prepared.the-variants.{Ready}
 use Rattle.machine.specs.State.{keyOf, groupOf, withPi, withSw, withIc, withRegs, advanced, joined}
 use Rattle.machine.specs.Machine.{Became, Effect, Supervised, nextOf, spanFrom}
-use Rattle.machine.specs.Instructions.{call, fail, affect, View, view, permitted, redirected, derived, extended, granted, decoded, fetched, prepared, both, supervised, operated, accessed, carried}
+use Rattle.machine.specs.Instructions.{fail, affect, View, view, permitted, redirected, derived, extended, granted, decoded, fetched, prepared, both, supervised, operated, accessed, carried}
 use Rattle.machine.specs.Step.{faulted, affected, stored, perform}
 use Rattle.isa.specs.Fields.{fieldA, register}
 use Rattle.isa.specs.Addressing.{inMemory}
@@ -33,7 +33,7 @@ use Rattle.isa.specs.Effects.{Context}
 use Rattle.isa.specs.Execute.{ordinary, executed}
 use Rattle.isa.specs.Commands.{supervisedBy}
 use Rattle.isa.specs.Mil1750.{classOf, contextOf, mil1750}
-use Rattle.access.specs.Needs.{exceptions, needOf}
+use Rattle.access.specs.Needs.{exceptions, wayOf, needOf}
 use Rattle.access.proofs.NeedsLaws.{told, untold, reads-span, writes-span}
 use Rattle.command.specs.declared.Governed.{Governed}
 use Rattle.command.specs.declared.Governed.the-variants.{Done, Refused}
@@ -41,10 +41,12 @@ use Rattle.command.specs.Outcome.{governed, Kept}
 use Rattle.block.specs.Operation.{isBlock, Worked}
 use Rattle.machine.proofs.StepLaws.{keeps-key, keeps-group}
 use Rattle.ordinary.specs.declared.Gathered.{Gathered}
-use Rattle.ordinary.specs.Gathers.{FirstThree, complete, denied, gathered}
-use Rattle.interrupt.specs.Later.{Calm, later}
-use Rattle.interrupt.proofs.LaterLaws.{calm-alike}
-use Rattle.cpu.specs.Settled.{Settled}
+use Rattle.ordinary.specs.Gathers.{FirstThree, gathered}
+use Rattle.ordinary.proofs.OrdinaryLaws.{all-gathered, denied-gathered}
+use Rattle.interrupt.specs.Later.{later}
+use Rattle.cpu.specs.declared.act.Moved.{Moved}
+use Rattle.cpu.specs.Settled.{Lasting}
+use Rattle.cpu.proofs.TimeLaws.{same-by}
 
 -- ---- the verdict on the accesses of a ready instruction
 
@@ -67,16 +69,6 @@ module _ (s : State) (m g o : List ℕ) (n : Instruction) (from to : Span) (v : 
   carried-fault b h = rw (agreed (Fault b) h) refl
 
 -- ---- at most three words, gathered
-
-pub all-gathered : (w : Verdict) (ws : List ℕ) (v : Gathered) → v ≡ gathered w ws → v .clear ≡ true → (w ≡ Clear) × FirstThree ws (v .x) (v .y) (v .z)
-unfolding gathered complete denied
-all-gathered Clear ws v e h = (refl, record { first-is = ap (λ r. r .x) e; second-is = ap (λ r. r .y) e; third-is = ap (λ r. r .z) e })
-all-gathered (Fault b) ws v e h = absurd (false≢true (sym (ap (λ r. r .clear) e) ∙ h))
-
-pub denied-gathered : (w : Verdict) (ws : List ℕ) (v : Gathered) → v ≡ gathered w ws → v .clear ≡ false → w ≡ Fault (v .fault)
-unfolding gathered complete denied
-denied-gathered Clear ws v e h = absurd (false≢true (sym h ∙ ap (λ r. r .clear) e))
-denied-gathered (Fault b) ws v e h = ap Fault (sym (ap (λ r. r .fault) e))
 
 -- v is what the code gathered from the span, by the key and the group of the state
 module _ (s : State) (m g : List ℕ) (n : Instruction) (key group : ℕ) (d : key ≡ keyOf (s .sw)) (e : group ≡ groupOf (s .sw)) (from count : ℕ) (v : Gathered)
@@ -122,30 +114,22 @@ module _ (s : State) (m g o : List ℕ) (n : Instruction) (key group : ℕ) (to 
 
 -- ---- whether the choice of an interrupt stays
 
--- a user's effect leaves it, as long as PI is what it was
-pub settled-by : (c d r : Core) (regs regs' : List ℕ) (e : Effect) (b : Bool) → (b ≡ true → r ≡ d) → b ≡ eqb (d .pi) (c .pi) → joined d regs' ≡ affected (joined c regs) e
-    → b ≡ true → Settled c r
+-- a user's effect leaves it, as long as PI is what it was, and leaves the time
+pub settled-by : (c d : Core) (r : Moved) (regs regs' : List ℕ) (e : Effect) → r .core ≡ d → r .lagging ≡ true → r .settled ≡ eqb (d .pi) (c .pi)
+    → joined d regs' ≡ affected (joined c regs) e → Lasting c r
 unfolding affected withPi withSw withIc withRegs
-settled-by c d r regs regs' e b i t h k =
-    rw (i k) (record {
-      pi-kept = eqb-true (d .pi) (c .pi) (sym t ∙ k);
-      mk-kept = ap (λ (s : State). s .mk) h;
-      enabled-kept = ap (λ (s : State). s .enabled) h;
-      hold-kept = ap (λ (s : State). s .hold) h;
-      key-kept = ap (λ (s : State). keyOf (s .sw)) h ∙ keeps-key (c .sw) (e .cs);
-      group-kept = ap (λ (s : State). groupOf (s .sw)) h ∙ keeps-group (c .sw) (e .cs);
-      ta-kept = ap (λ (s : State). s .ta) h;
-      tb-kept = ap (λ (s : State). s .tb) h;
-      taon-kept = ap (λ (s : State). s .taon) h;
-      tbon-kept = ap (λ (s : State). s .tbon) h;
-      count-kept = ap (λ (s : State). s .count) h;
-    })
-
--- and the time
-pub calm-after : (n : ℕ) (c d : Core) (regs regs' : List ℕ) (e : Effect) → joined d regs' ≡ affected (joined c regs) e → Calm n c → Calm n d
-unfolding affected withPi withSw withIc withRegs
-calm-after n c d regs regs' e h =
-    calm-alike n c d (ap (λ (s : State). s .ta) h) (ap (λ (s : State). s .tb) h) (ap (λ (s : State). s .taon) h) (ap (λ (s : State). s .tbon) h) (ap (λ (s : State). s .count) h)
+settled-by c d r regs regs' e i l t h = record {
+  time-kept = λ k. rw i (same-by c d regs regs' (affected (joined c regs) e) h refl);
+  choice-kept = λ k. rw i (record {
+    pi-kept = eqb-true (d .pi) (c .pi) (sym t ∙ k);
+    mk-kept = ap (λ (s : State). s .mk) h;
+    enabled-kept = ap (λ (s : State). s .enabled) h;
+    hold-kept = ap (λ (s : State). s .hold) h;
+    key-kept = ap (λ (s : State). keyOf (s .sw)) h ∙ keeps-key (c .sw) (e .cs);
+    group-kept = ap (λ (s : State). groupOf (s .sw)) h ∙ keeps-group (c .sw) (e .cs);
+  });
+  lags = λ k. l;
+}
 
 -- ---- an instruction up to its accesses does not see the time
 
@@ -187,9 +171,9 @@ module _ (n : ℕ) (s : State) (v : View) where
 
 -- ---- a fault
 
-pub failed : (s t : State) (m g o : List ℕ) (b a : ℕ) → t ≡ faulted s b a → Became (perform s m g o (fail b a)) t m g o
+pub failed : (s t : State) (m m' g o : List ℕ) (b a : ℕ) → m' ≡ m → t ≡ faulted s b a → Became (perform s m g o (fail b a)) t m' g o
 unfolding perform
-failed s t m g o b a f = record { state-is = f; memory-is = refl; pages-is = refl; ports-is = refl }
+failed s t m m' g o b a e f = record { state-is = f; memory-is = e; pages-is = refl; ports-is = refl }
 
 -- ---- a user's operation
 
@@ -207,7 +191,7 @@ differs operation k h i = apart operation k (λ e. false≢true (sym h ∙ e ∙
 
 -- the weight of those on blocks, computed at every operation
 block-told : (k : ℕ) → k < 256 → needOf k / 64 % 2 ≡ cond (isBlock k) 1 0
-unfolding needOf exceptions wordsRead wordsMoved wordsOfFloat wordsOfInteger wordsWritten isBlock
+unfolding needOf exceptions wayOf wordsRead wordsMoved wordsOfFloat wordsOfInteger wordsWritten isBlock
 block-told k h = eqb-true _ _ (tests.passes (λ (j : ℕ). eqb (needOf j / 64 % 2) (cond (isBlock j) 1 0)) 256 refl k h)
 
 module _ (form need : ℕ) (e : need ≡ needOf (operationOf form)) where
@@ -305,15 +289,6 @@ pub first-three : (s : State) (g o : List ℕ) (n : Instruction) (ws : List ℕ)
     → supervisedBy s g o n (x ∷ y ∷ z ∷ []) ≡ supervisedBy s g o n ws
 unfolding supervisedBy
 first-three s g o n ws x y z e = rw (e .first-is, e .second-is, e .third-is) refl
-
--- from a state that is equal
-pub governed-at : (s u : State) (m g o : List ℕ) (n : Instruction) (ws : List ℕ) (t : State) (g' o' : List ℕ) → s ≡ u
-    → Became (perform s m g o (supervised s n (supervisedBy s g o n ws))) t m g' o' → Became (perform u m g o (supervised u n (supervisedBy u g o n ws))) t m g' o'
-governed-at s u m g o n ws t g' o' e b = subst (λ k. Became (perform k m g o (supervised k n (supervisedBy k g o n ws))) t m g' o') e b
-
-pub called-at : (s u : State) (m g o : List ℕ) (k : ℕ) (t : State) (m' : List ℕ) → s ≡ u
-    → Became (perform s m g o (call k)) t m' g o → Became (perform u m g o (call k)) t m' g o
-called-at s u m g o k t m' e b = subst (λ w. Became (perform w m g o (call k)) t m' g o) e b
 
 module _ (c : Core) (m : List ℕ) (n : Instruction) (regs regs' g g' o o' : List ℕ) (v : Governed) (q : Supervised) (e : governed v regs' g' o' ≡ q) where
   pub governed-done : (t : Core) → v ≡ Done t → Became (perform (joined c regs) m g o (supervised (joined c regs) n q)) (joined t regs') m g' o'

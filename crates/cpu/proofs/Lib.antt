@@ -1,4 +1,5 @@
--- The laws of one instruction and of runs, and property 3 of this machine.
+-- The laws of the time, of one instruction and of runs, and property 3 of this machine.
+pub mod TimeLaws
 pub mod ActLaws
 pub mod StepLaws
 pub mod Isolated

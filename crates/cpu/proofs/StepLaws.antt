@@ -19,8 +19,9 @@ use Rattle.machine.specs.Step.{released, perform, begun, action, ticked, tick, 
 use Rattle.machine.specs.Runs.{numberOf, asked, admission, steps}
 use Rattle.machine.proofs.MachineLaws.{became-machine}
 use Rattle.interrupt.specs.Later.{Calm, later}
-use Rattle.interrupt.proofs.LaterLaws.{calm-alike, ticked-later, later-none}
-use Rattle.cpu.specs.Settled.{Settled, after}
+use Rattle.interrupt.proofs.LaterLaws.{ticked-later, later-none}
+use Rattle.cpu.specs.Settled.{SameTime, Settled, after}
+use Rattle.cpu.proofs.TimeLaws.{same-by}
 
 -- ---- what a step does, from the interrupt n that is chosen
 
@@ -34,20 +35,6 @@ module _ (isa : Isa) (x : Machine) (n : ℕ) (e : n ≡ chosen (x .state)) where
   unfolding action begun
   instructs h = rw (← e, le-ltb _ _ h) refl
 
-pub became-ticked : (x : Machine) (c r : Core) (regs m g o : List ℕ) → Became x (joined c regs) m g o → ((v : List ℕ) → joined r v ≡ ticked (joined c v))
-    → Became (tick x) (joined r regs) m g o
-unfolding tick
-became-ticked x c r regs m g o b f =
-    record { state-is = f regs ∙ ap ticked (b .state-is); memory-is = b .memory-is; pages-is = b .pages-is; ports-is = b .ports-is }
-
--- ---- a step, from the interrupt n that is chosen, what was done and the end
-
-module _ (isa : Isa) (x : Machine) (n : ℕ) (e : n ≡ chosen (x .state)) (c r : Core) (regs m g o : List ℕ) (f : (v : List ℕ) → joined r v ≡ ticked (joined c v)) where
-  pub entry-step : n < 16 → Became (perform (released (x .state)) (x .memory) (x .pages) (x .ports) (enter n)) (joined c regs) m g o
-      → Became (step isa x) (joined r regs) m g o
-  unfolding step
-  entry-step h b = became-ticked _ c r regs m g o (rw (← enters isa x n e h) b) f
-
 -- ---- what stays
 
 -- over the clearing of the hold mark, from the core t to f
@@ -60,11 +47,14 @@ module _ (t f : Core) (a : (v : List ℕ) → joined f v ≡ released (joined t 
   unfolding released withHold
   hold-released = ap (λ (u : State). u .hold) (a [])
 
-  pub calm-released : (n : ℕ) → Calm n t → Calm n f
+  pub time-released : SameTime t f
   unfolding released withHold
-  calm-released n =
-      calm-alike n t f (ap (λ (s : State). s .ta) (a [])) (ap (λ (s : State). s .tb) (a [])) (ap (λ (s : State). s .taon) (a []))
-      (ap (λ (s : State). s .tbon) (a [])) (ap (λ (s : State). s .count) (a []))
+  time-released = same-by t f [] [] (released (joined t [])) (a []) refl
+
+  -- some ticks later
+  pub later-released : (n : ℕ) (v : List ℕ) → later n (joined f v) ≡ released (later n (joined t v))
+  unfolding released withHold
+  later-released n v = ap (later n) (a v)
 
 -- a state whose hold mark is clear
 released-same : (s : State) → s .hold ≡ false → s ≡ released s
@@ -74,14 +64,16 @@ released-same s h = ap (withHold s) h
 pub chosen-released : (t f : Core) → ((v : List ℕ) → joined f v ≡ released (joined t v)) → t .hold ≡ false → (regs : List ℕ) → chosen (joined f regs) ≡ chosen (joined t regs)
 chosen-released t f a h regs = ap chosen (a regs ∙ sym (released-same (joined t regs) h))
 
+-- some ticks later
+pub chosen-later : (n : ℕ) (s : State) → chosen (later n s) ≡ chosen s
+unfolding chosen takeable
+chosen-later n s = refl
+
 -- over an instruction, from the core c to d
 module _ (c d : Core) (s : Settled c d) where
   pub chosen-settled : (regs regs' : List ℕ) → chosen (joined d regs') ≡ chosen (joined c regs)
   unfolding chosen takeable
   chosen-settled regs regs' = rw (s .pi-kept, s .mk-kept, s .enabled-kept, s .hold-kept) refl
-
-  pub calm-settled : (n : ℕ) → Calm n c → Calm n d
-  calm-settled n = calm-alike n c d (s .ta-kept) (s .tb-kept) (s .taon-kept) (s .tbon-kept) (s .count-kept)
 
 -- ---- n steps
 
@@ -95,72 +87,90 @@ unfolding steps
 steps-step isa zero x h = absurd (omega arith)
 steps-step isa (suc n) x h = rw sub-one refl
 
+pub steps-next : (isa : Isa) (k : ℕ) (x : Machine) → steps isa (k + 1) x ≡ steps isa k (step isa x)
+steps-next isa k x = steps-step isa (k + 1) x (omega arith) ∙ ap (λ i. steps isa i (step isa x)) (omega arith)
+
+-- ---- the entry of interrupt n, and the steps after it
+
+pub entry-made : (isa : Isa) (x : Machine) (n lag : ℕ) → n ≡ chosen (x .state) → n < 16 → (s : State) (m g o : List ℕ)
+    → Became (perform (released (x .state)) (x .memory) (x .pages) (x .ports) (enter n)) (later lag s) m g o
+    → (k : ℕ) → steps isa (k + (lag + 1 - lag)) x ≡ steps isa k (machine (ticked (later (lag + 1 - 1) s)) m g o)
+unfolding step tick
+entry-made isa x n lag e h s m g o b k =
+    ap (λ i. steps isa i x) (omega arith) ∙ steps-next isa k x
+    ∙ rw (← enters isa x n e h, ← became-machine b) (ap (λ i. steps isa k (machine (ticked (later i s)) m g o)) (omega arith))
+
 -- ---- an instruction, its tick and the steps after it
 
 abbrev pub going : Isa → ℕ → State → List ℕ → List ℕ → List ℕ → Machine
 going isa k s m g o = steps isa k (tick (perform s m g o (instructed isa s g o (view s m g))))
 
--- n steps begin with an instruction, where no interrupt is chosen; u is the state with the hold mark cleared
-pub going-start : (isa : Isa) (n : ℕ) (x : Machine) (u : State) → u ≡ released (x .state) → 0 < n → 16 ≤ chosen (x .state)
-    → steps isa n x ≡ going isa (n - 1) u (x .memory) (x .pages) (x .ports)
+-- steps begin with an instruction, where no interrupt is chosen; u is the state with the hold mark cleared
+going-start : (isa : Isa) (k : ℕ) (x : Machine) (u : State) → u ≡ released (x .state) → 16 ≤ chosen (x .state)
+    → steps isa (k + 1) x ≡ going isa k u (x .memory) (x .pages) (x .ports)
 unfolding step
-going-start isa n x u e h i = steps-step isa n x h ∙ rw (e, ← instructs isa x _ refl i) refl
+going-start isa k x u e i = steps-next isa k x ∙ rw (e, ← instructs isa x _ refl i) refl
 
--- what the instruction did, from the state s
-module _ (isa : Isa) (k : ℕ) (s : State) (m g o : List ℕ) (lag : ℕ) (b : Bool) (c : Core) (regs m' g' o' : List ℕ)
-    (f : Became (perform s m g o (instructed isa s g o (view s m g))) (after b lag (joined c regs)) m' g' o') where
-  ticks : going isa k s m g o ≡ steps isa k (machine (ticked (after b lag (joined c regs))) m' g' o')
+-- the row of steps begins with u, m₀, g₀ and o₀, at the lag `from`; before its instruction at the lag `lag` there are s, m, g, o; and after it
+-- the core c, which is lagging or not, with its registers and lists
+module _ (isa : Isa) (from lag : ℕ) (h : from ≤ lag) (u s : State) (m₀ g₀ o₀ m g o : List ℕ)
+    (goes : (k : ℕ) → going isa (k + (lag - from)) u m₀ g₀ o₀ ≡ going isa k s m g o)
+    (b : Bool) (c : Core) (regs m' g' o' : List ℕ) (f : Became (perform s m g o (instructed isa s g o (view s m g))) (after b lag (joined c regs)) m' g' o') where
+  ticks : (k : ℕ) → going isa k s m g o ≡ steps isa k (machine (ticked (after b lag (joined c regs))) m' g' o')
   unfolding tick
-  ticks = ap (λ x. steps isa k (tick x)) (sym (became-machine f))
+  ticks k = ap (λ x. steps isa k (tick x)) (sym (became-machine f))
 
-  -- it is not settled; r is the core after the tick
-  pub going-end : (r : Core) → ((v : List ℕ) → joined r v ≡ ticked (joined c v)) → b ≡ false → (i : ℕ) → k ≡ i → going isa k s m g o ≡ steps isa i (machine (joined r regs) m' g' o')
-  going-end r t h i e =
-      ticks ∙ ap (λ d. steps isa k (machine (ticked (after d lag (joined c regs))) m' g' o')) h ∙ ap (λ u. steps isa k (machine u m' g' o')) (sym (t regs))
-      ∙ ap (λ z. steps isa z (machine (joined r regs) m' g' o')) e
+  -- the row ends
+  pub row-made : (v : State) → u ≡ released v → 16 ≤ chosen v
+      → (k : ℕ) → steps isa (k + (lag + 1 - from)) (machine v m₀ g₀ o₀) ≡ steps isa k (machine (ticked (after b (lag + 1 - 1) (joined c regs))) m' g' o')
+  row-made v e i k =
+      ap (λ j. steps isa j (machine v m₀ g₀ o₀)) (omega arith) ∙ going-start isa (k + (lag - from)) (machine v m₀ g₀ o₀) u e i ∙ goes k ∙ ticks k
+      ∙ ap (λ j. steps isa k (machine (ticked (after b j (joined c regs))) m' g' o')) (omega arith)
 
-  -- it is settled
-  pub going-late : b ≡ true → going isa k s m g o ≡ steps isa k (machine (ticked (later lag (joined c regs))) m' g' o')
-  going-late h = ticks ∙ ap (λ d. steps isa k (machine (ticked (after d lag (joined c regs))) m' g' o')) h
+  -- the next instruction follows at once
+  pub row-on : b ≡ true → c .hold ≡ false → 16 ≤ chosen (joined c regs) → Calm (lag + 1) c
+      → (k : ℕ) → going isa (k + (lag + 1 - from)) u m₀ g₀ o₀ ≡ going isa k (later (lag + 1) (joined c regs)) m' g' o'
+  unfolding chosen takeable
+  row-on e i q calm k =
+      let next = later (lag + 1) (joined c regs) in
+      ap (λ j. going isa j u m₀ g₀ o₀) (omega arith) ∙ goes (k + 1) ∙ ticks (k + 1)
+      ∙ ap (λ d. steps isa (k + 1) (machine (ticked (after d lag (joined c regs))) m' g' o')) e
+      ∙ ap (λ w. steps isa (k + 1) (machine w m' g' o')) (ticked-later (joined c regs) lag (calm .a-inside) (calm .b-inside) (calm .count-inside))
+      ∙ going-start isa k (machine next m' g' o') next (released-same next i) q
 
--- with equal numbers
-pub equal-steps : (isa : Isa) (k k' j j' : ℕ) (s : State) (m g o : List ℕ) → k ≡ k' → j ≡ j'
-    → steps isa k (machine (ticked (later j s)) m g o) ≡ steps isa k' (machine (ticked (later j' s)) m g o)
-equal-steps isa k k' j j' s m g o e h = ap (λ i. steps isa i (machine (ticked (later j s)) m g o)) e ∙ ap (λ i. steps isa k' (machine (ticked (later i s)) m g o)) h
+-- ---- a stretch of steps, of which n are to be made: n - from of them are left before a row, which leaves the lag `to`
 
--- with no tick to make up for
-pub going-first : (isa : Isa) (n z : ℕ) (s : State) (m g o : List ℕ) → z ≡ 0 → going isa (n - 1) s m g o ≡ going isa (n - (z + 1)) (later z s) m g o
-going-first isa n z s m g o e =
-    subst (λ k. going isa (n - 1) s m g o ≡ going isa (n - (k + 1)) (later k s) m g o) (sym e) (ap (λ u. going isa (n - 1) u m g o) (sym (later-none s)))
+module _ (isa : Isa) (x y : Machine) (n from to : ℕ) (h : from < to) (i : to ≤ n) (goes : y ≡ steps isa (n - from) x) (b : Bool) (c : Core) (regs m g o : List ℕ)
+    (made : (k : ℕ) → steps isa (k + (to - from)) x ≡ steps isa k (machine (ticked (after b (to - 1) (joined c regs))) m g o)) where
+  on : y ≡ steps isa (n - to) (machine (ticked (after b (to - 1) (joined c regs))) m g o)
+  on = goes ∙ ap (λ k. steps isa k x) (omega arith) ∙ made (n - to)
 
--- and the next instruction follows at once, with j steps after it
-pub going-on : (isa : Isa) (k j n i : ℕ) (c : Core) (regs m g o : List ℕ) → k ≡ j + 1 → i ≡ n + 1 → c .hold ≡ false → 16 ≤ chosen (joined c regs) → Calm i c
-    → steps isa k (machine (ticked (later n (joined c regs))) m g o) ≡ going isa j (later i (joined c regs)) m g o
-unfolding chosen takeable
-going-on isa k j n i c regs m g o e f h q calm =
-    let next = later i (joined c regs) in
-    let calmly = subst (λ z. Calm z c) f calm in
-    ap (λ u. steps isa k (machine u m g o)) (ticked-later (joined c regs) n (calmly .a-inside) (calmly .b-inside) (calmly .count-inside)
-    ∙ ap (λ z. later z (joined c regs)) (sym f))
-    ∙ going-start isa k (machine next m g o) next (released-same next h) (omega arith) q
-    ∙ ap (λ z. going isa z next m g o) (omega arith)
+  -- the stretch ends before the tick: t is the core at the end
+  pub stretch-cut : b ≡ false → (t : Core) → ((v : List ℕ) → joined t v ≡ ticked (joined c v)) → y ≡ steps isa (n - to) (machine (joined t regs) m g o)
+  stretch-cut e t f = on ∙ ap (λ d. steps isa (n - to) (machine (ticked (after d (to - 1) (joined c regs))) m g o)) e ∙ ap (λ s. steps isa (n - to) (machine s m g o)) (sym (f regs))
 
--- ---- of n steps at most `most` are made at once, and `left` of these are left
+  late : b ≡ true → y ≡ steps isa (n - to) (machine (ticked (later (to - 1) (joined c regs))) m g o)
+  late e = on ∙ ap (λ d. steps isa (n - to) (machine (ticked (after d (to - 1) (joined c regs))) m g o)) e
 
-module _ (n most left : ℕ) (h : 0 < left) (b : left ≤ most) where
-  -- the lag one step on
-  pub lag-next : most - (left - 1) ≡ most - left + 1
-  lag-next = omega arith
+  -- it ends with all its calm ticks, then one
+  pub stretch-end : b ≡ true → (most : ℕ) → to ≡ most → (l t : Core) → ((v : List ℕ) → joined l v ≡ later (most - 1) (joined c v)) → ((v : List ℕ) → joined t v ≡ ticked (joined l v))
+      → y ≡ steps isa (n - most) (machine (joined t regs) m g o)
+  stretch-end e most j l t p f =
+      late e ∙ ap (λ k. steps isa (n - k) (machine (ticked (later (k - 1) (joined c regs))) m g o)) j
+      ∙ ap (λ s. steps isa (n - most) (machine s m g o)) (sym (f regs ∙ ap ticked (p regs)))
 
-  pub lag-before : most - left ≡ most - (left - 1) - 1
-  lag-before = omega arith
+  -- it goes on
+  pub stretch-on : b ≡ true → Calm to c → y ≡ steps isa (n - to) (machine (later to (joined c regs)) m g o)
+  stretch-on e calm =
+      let same : to - 1 + 1 ≡ to = omega arith in
+      let calmly = subst (λ z. Calm z c) (sym same) calm in
+      late e ∙ ap (λ s. steps isa (n - to) (machine s m g o))
+      (ticked-later (joined c regs) (to - 1) (calmly .a-inside) (calmly .b-inside) (calmly .count-inside) ∙ ap (λ z. later z (joined c regs)) same)
 
-  -- the steps after it
-  pub rest-next : n - (most - left + 1) ≡ n - (most - (left - 1))
-  rest-next = ap (λ k. n - k) (sym lag-next)
-
-  pub rest-after : 0 < left - 1 → most ≤ n → n - (most - left + 1) ≡ n - (most - (left - 1) + 1) + 1
-  rest-after i j = rw lag-next (omega arith)
+-- it begins with no tick to make up for
+pub stretch-start : (isa : Isa) (n z : ℕ) (s : State) (m g o : List ℕ) → z ≡ 0 → steps isa n (machine s m g o) ≡ steps isa (n - z) (machine (later z s) m g o)
+stretch-start isa n z s m g o e =
+    ap (λ w. steps isa n (machine w m g o)) (sym (later-none s)) ∙ ap (λ k. steps isa n (machine (later k s) m g o)) (sym e) ∙ ap (λ k. steps isa k (machine (later z s) m g o)) (omega arith)
 
 -- ---- the questions
 

@@ -1,2 +1,3 @@
--- What an instruction may leave as it was, so that steps can follow each other without a new choice of an interrupt.
+-- What an instruction may leave as it was, and what a row of steps comes to.
 pub mod Settled
+pub mod Rows

@@ -1,9 +1,10 @@
 // One instruction from its accesses on (Scope, "One step", 2 and 3), on a core and the registers lent beside it; key and group are those of
-// its SW. Callers have 512 page registers and 1,024 ports: a run asks for them. The core may lag some calm ticks behind the state.
+// its SW. Callers have 512 page registers and 1,024 ports: a run asks for them. The core may lag some calm ticks behind the state: only the
+// commands of timers see the time.
 ghost use mathlib.Core.Path.{_≡_};
-ghost use mathlib.Core.Bool.{true, false};
+ghost use mathlib.Core.Bool.{true, false, cond};
 ghost use mathlib.Core.List.{List, [], _∷_};
-ghost use Prim.Native.Nat.{ℕ, _+_, _<_, _%_};
+ghost use Prim.Native.Nat.{ℕ, _+_, _/_, _<_, _%_};
 ghost use lib.ListN.{length};
 ghost use Rattle.page.specs.Spans.{wrapped, checked, wordsOf};
 ghost use Rattle.decode.specs.Forms.{lengthOf, operationOf};
@@ -15,11 +16,11 @@ ghost use Rattle.machine.specs.Step.{faulted, perform};
 ghost use Rattle.isa.specs.Accesses.{readsOf, writesOf};
 ghost use Rattle.isa.specs.Commands.{supervisedBy};
 ghost use Rattle.isa.specs.Mil1750.{classOf, mil1750};
-ghost use Rattle.access.specs.Needs.{needOf, allNeeds};
+ghost use Rattle.access.specs.Needs.{wayOf, needOf, allNeeds};
 ghost use Rattle.block.specs.Operation.{isBlock};
 ghost use Rattle.ordinary.specs.Gathers.{FirstThree};
 ghost use Rattle.interrupt.specs.Later.{Calm, later};
-ghost use Rattle.cpu.specs.Settled.{Settled, after};
+ghost use Rattle.cpu.specs.Settled.{Lasting, after};
 ghost use lib.Dec.{eqb};
 use access::accesses::reads;
 use access::accesses::span_from;
@@ -30,9 +31,12 @@ use access::needs::read_start;
 use access::needs::write_count;
 use access::needs::write_start;
 use block::block;
+use block::here::try_block;
 use command::Governed;
 use command::supervise;
-use interrupt::entry::enter;
+use direct::direct;
+use interrupt::entry::arrive;
+use interrupt::entry::link;
 use interrupt::fields::advance;
 use interrupt::fields::group_of;
 use interrupt::fields::key_of;
@@ -53,44 +57,42 @@ use page::lookup::check_span;
 use prepare::class_of;
 use prepare::prepare;
 
-// The core after an instruction. Where it is settled, it lags as before, and no other interrupt is to be chosen than before, by the same key
-// and address state; else it does not lag.
+// The core after an instruction. Where it is settled, no other interrupt is to be chosen than before, by the same key and address state.
+// Where it is lagging, it lags as before; else it does not lag.
 pub struct Moved {
     pub settled: bool,
+    pub lagging: bool,
     pub core: Core,
 }
 
 // After anything but a user's operation that leaves PI.
-fn unsettled(core: Core) -> Moved
-    ensures { λ r. ⌜ (r .core ≡ core) × (r .settled ≡ false) ⌝ }
+fn unsettled(lagging: bool, core: Core) -> Moved
+    ensures { λ r. ⌜ (r .core ≡ core) × (r .lagging ≡ lagging) × (r .settled ≡ false) ⌝ }
 {
     Moved {
         settled: false,
+        lagging,
         core,
     }
 }
 
 // After a user's operation: it is settled where PI is what it was.
-fn weighed(pi: u16, lag: u32, core: Core) -> Moved
-    requires { ⌜ Calm lag core ⌝ }
-    ensures { λ r. ⌜ (r .settled ≡ eqb (core .pi) pi) × (r .settled ≡ true → r .core ≡ core)
-        × ((regs : List ℕ) → after (r .settled) lag (joined (r .core) regs) ≡ later lag (joined core regs)) ⌝ }
+fn weighed(pi: u16, core: Core) -> Moved
+    ensures { λ r. ⌜ (r .settled ≡ eqb (core .pi) pi) × (r .core ≡ core) × (r .lagging ≡ true)
+        × ((n : ℕ) (regs : List ℕ) → after (r .lagging) n (joined (r .core) regs) ≡ later n (joined core regs)) ⌝ }
 {
-    if core.pi == pi {
-        return Moved {
-            settled: true,
-            core,
-        };
+    Moved {
+        settled: core.pi == pi,
+        lagging: true,
+        core,
     }
-    unsettled(tick_by(core, lag))
 }
 
 // A fault: its FT bit is b, and IC is left at a.
-fn deny(core: Core, lag: u32, b: u16, a: u16) -> Moved
-    requires { ⌜ Calm lag core ⌝ }
-    ensures { λ r. ⌜ (r .settled ≡ false) × ((regs : List ℕ) → joined (r .core) regs ≡ faulted (later lag (joined core regs)) b a) ⌝ }
+fn deny(core: Core, b: u16, a: u16) -> Moved
+    ensures { λ r. ⌜ (r .lagging ≡ true) × ((n : ℕ) (regs : List ℕ) → later n (joined (r .core) regs) ≡ faulted (later n (joined core regs)) b a) × Lasting core r ⌝ }
 {
-    unsettled(fault(tick_by(core, lag), b, a))
+    unsettled(true, fault(core, b, a))
 }
 
 // The first refusal: all reads, then all writes.
@@ -115,29 +117,52 @@ fn refuse(core: Core, form: u16, b: u16) -> Core
     fault(core, b, advance(core.ic, form / 4096))
 }
 
-// An operation on a block, with any ports: its accesses are checked before it changes anything.
-fn carry_block(
+// An operation on a block, word by word, with any ports: its accesses are checked before it changes anything.
+fn carry_words(
     core: Core,
-    lag: u32,
     regs: &mut [u16; 16],
     memory: &mut [u16],
     pages: &[u16],
     n: Instruction,
 ) -> Moved
-    requires { ⌜ (length (now pages) ≡ 512) × (isBlock (operationOf (n .form)) ≡ true) × Calm lag core ⌝ }
-    ensures { λ r. ⌜ ((ports : List ℕ) → Became (perform (later lag (joined core (now (regs .entry)))) (now (memory .entry)) (now (pages .entry)) ports
+    requires { ⌜ (length (now pages) ≡ 512) × (isBlock (operationOf (n .form)) ≡ true) ⌝ }
+    ensures { λ r. ⌜ ((lag : ℕ) (ports : List ℕ) → Became (perform (later lag (joined core (now (regs .entry)))) (now (memory .entry)) (now (pages .entry)) ports
         (spec.carried mil1750 (later lag (joined core (now (regs .entry)))) (now (pages .entry)) ports
         (spec.view (later lag (joined core (now (regs .entry)))) (now (memory .entry)) (now (pages .entry))) (Prepared.Ready n)))
-        (after (r .settled) lag (joined (r .core) (now (regs .exit)))) (now (memory .exit)) (now (pages .entry)) ports)
-        × (r .settled ≡ true → Settled core (r .core)) ⌝ }
+        (after (r .lagging) lag (joined (r .core) (now (regs .exit)))) (now (memory .exit)) (now (pages .entry)) ports)
+        × Lasting core r ⌝ }
 {
     let from = reads(regs, n);
     let to = writes(regs, n);
     let verdict = verify(core.sw, pages, memory.len(), from, to);
     match verdict {
-        Verdict::Clear => weighed(core.pi, lag, block(core, regs, memory, pages, n, from)),
-        Verdict::Fault(b) => deny(core, lag, b, advance(core.ic, n.form / 4096)),
+        Verdict::Clear => weighed(core.pi, block(core, regs, memory, pages, n, from)),
+        Verdict::Fault(b) => deny(core, b, advance(core.ic, n.form / 4096)),
     }
+}
+
+// An operation on a block, with any ports: at once where that can be.
+fn carry_block(
+    core: Core,
+    key: u16,
+    group: u16,
+    regs: &mut [u16; 16],
+    memory: &mut [u16],
+    pages: &[u16],
+    n: Instruction,
+) -> Moved
+    requires { ⌜ (length (now pages) ≡ 512) × (isBlock (operationOf (n .form)) ≡ true) × (key ≡ keyOf (core .sw)) × (group ≡ groupOf (core .sw)) × (group < 16) ⌝ }
+    ensures { λ r. ⌜ ((lag : ℕ) (ports : List ℕ) → Became (perform (later lag (joined core (now (regs .entry)))) (now (memory .entry)) (now (pages .entry)) ports
+        (spec.carried mil1750 (later lag (joined core (now (regs .entry)))) (now (pages .entry)) ports
+        (spec.view (later lag (joined core (now (regs .entry)))) (now (memory .entry)) (now (pages .entry))) (Prepared.Ready n)))
+        (after (r .lagging) lag (joined (r .core) (now (regs .exit)))) (now (memory .exit)) (now (pages .entry)) ports)
+        × Lasting core r ⌝ }
+{
+    let tried = try_block(core, key, group, regs, memory, pages, n);
+    if tried.done {
+        return weighed(core.pi, tried.core);
+    }
+    carry_words(core, regs, memory, pages, n)
 }
 
 // A privileged operation on the words x, y and z.
@@ -164,6 +189,44 @@ fn govern(
     }
 }
 
+// Whether an operation may see the time: of XIO's commands, which are its address, those of timers have the second bit set.
+fn sees_time(address: u16) -> bool
+    ensures { λ r. ⌜ r ≡ eqb (address / 16384 % 2) 1 ⌝ }
+{
+    address / 0x4000 % 2 == 1
+}
+
+// How far it is to catch up first.
+fn behind(timed: bool, lag: u32) -> u32
+    ensures { λ r. ⌜ r ≡ cond timed lag 0 ⌝ }
+{
+    if timed { lag } else { 0 }
+}
+
+// A privileged operation on the words x, y and z, with any memory, from a core that may lag.
+fn command(
+    core: Core,
+    lag: u32,
+    regs: &mut [u16; 16],
+    pages: &mut [u16],
+    ports: &mut [u16],
+    n: Instruction,
+    x: u16,
+    y: u16,
+    z: u16,
+) -> Moved
+    requires { ⌜ (length (now pages) ≡ 512) × (length (now ports) ≡ 1024) × Calm lag core ⌝ }
+    ensures { λ r. ⌜ ((memory : List ℕ) → Became (perform (later lag (joined core (now (regs .entry)))) memory (now (pages .entry)) (now (ports .entry))
+        (spec.supervised (later lag (joined core (now (regs .entry)))) n
+        (supervisedBy (later lag (joined core (now (regs .entry)))) (now (pages .entry)) (now (ports .entry)) n (x ∷ y ∷ z ∷ []))))
+        (after (r .lagging) lag (joined (r .core) (now (regs .exit)))) memory (now (pages .exit)) (now (ports .exit))) × Lasting core r ⌝ }
+{
+    let timed = sees_time(n.address);
+    let late = tick_by(core, behind(timed, lag));
+    let done = govern(late, regs, pages, ports, n, x, y, z);
+    unsettled(!timed, done)
+}
+
 // BEX k (5.30): the entry of interrupt 5 from the IC after it, with any registers and ports.
 fn call(core: Core, memory: &mut [u16], pages: &[u16], k: u16) -> Core
     requires { ⌜ (length (now pages) ≡ 512) × (k < 16) ⌝ }
@@ -172,21 +235,8 @@ fn call(core: Core, memory: &mut [u16], pages: &[u16], k: u16) -> Core
 {
     let v = call_vector(memory, pages, k);
     let ic = advance(core.ic, 1);
-    let next = Core {
-        ic,
-        sw: core.sw,
-        mk: core.mk,
-        pi: core.pi,
-        ft: core.ft,
-        enabled: core.enabled,
-        hold: core.hold,
-        ta: core.ta,
-        tb: core.tb,
-        taon: core.taon,
-        tbon: core.tbon,
-        count: core.count,
-    };
-    enter(next, memory, pages, 5, v)
+    let refusal = link(core.mk, core.sw, ic, memory, pages, v.sw, v.link);
+    arrive(core, 5, v, refusal)
 }
 
 // An operation on at most three words, which are x, y and z, whose accesses are open, by its class.
@@ -209,23 +259,17 @@ fn operate(
     ensures { λ r. ⌜ (Became (perform (later lag (joined core (now (regs .entry)))) (now (memory .entry)) (now (pages .entry)) (now (ports .entry))
         (spec.operated mil1750 (later lag (joined core (now (regs .entry)))) (now (pages .entry)) (now (ports .entry)) (classOf (operationOf (n .form))) n
         (wordsOf (keyOf (core .sw)) (groupOf (core .sw)) (now (pages .entry)) (length (now (memory .entry))) (readsOf (now (regs .entry)) n) (now (memory .entry)))))
-        (after (r .settled) lag (joined (r .core) (now (regs .exit)))) (now (memory .exit)) (now (pages .exit)) (now (ports .exit)))
-        × (r .settled ≡ true → Settled core (r .core)) ⌝ }
+        (after (r .lagging) lag (joined (r .core) (now (regs .exit)))) (now (memory .exit)) (now (pages .exit)) (now (ports .exit)))
+        × Lasting core r ⌝ }
 {
     let class = class_of(n.form % 256);
     match class {
         Class::User => {
             let done = work(core, regs, memory, pages, n, x, y, z, to);
-            weighed(core.pi, lag, done)
+            weighed(core.pi, done)
         }
-        Class::Supervisor => {
-            let late = tick_by(core, lag);
-            unsettled(govern(late, regs, pages, ports, n, x, y, z))
-        }
-        Class::Executive => {
-            let late = tick_by(core, lag);
-            unsettled(call(late, memory, pages, n.first % 16))
-        }
+        Class::Supervisor => command(core, lag, regs, pages, ports, n, x, y, z),
+        Class::Executive => unsettled(true, call(core, memory, pages, n.first % 16)),
     }
 }
 
@@ -250,15 +294,41 @@ fn proceed(
         (spec.accessed mil1750 (later lag (joined core (now (regs .entry)))) (now (pages .entry)) (now (ports .entry))
         (spec.view (later lag (joined core (now (regs .entry)))) (now (memory .entry)) (now (pages .entry))) n
         (checked (keyOf (core .sw)) (groupOf (core .sw)) (now (pages .entry)) (length (now (memory .entry))) (writesOf (now (regs .entry)) n) Access.Write)))
-        (after (r .settled) lag (joined (r .core) (now (regs .exit)))) (now (memory .exit)) (now (pages .exit)) (now (ports .exit)))
-        × (r .settled ≡ true → Settled core (r .core)) ⌝ }
+        (after (r .lagging) lag (joined (r .core) (now (regs .exit)))) (now (memory .exit)) (now (pages .exit)) (now (ports .exit)))
+        × Lasting core r ⌝ }
 {
     let to = span_from(write_start(regs, n, need), write_count(n, need));
     let verdict = check_span(Access::Write, key, group, pages, memory.len(), to);
     match verdict {
         Verdict::Clear => operate(core, lag, regs, memory, pages, ports, n, g.x, g.y, g.z, to),
-        Verdict::Fault(b) => deny(core, lag, b, advance(core.ic, n.form / 4096)),
+        Verdict::Fault(b) => deny(core, b, advance(core.ic, n.form / 4096)),
     }
+}
+
+// An operation with a way of its own, with any ports: its accesses are checked before it changes anything.
+fn carry_direct(
+    core: Core,
+    key: u16,
+    group: u16,
+    regs: &mut [u16; 16],
+    memory: &mut [u16],
+    pages: &[u16],
+    n: Instruction,
+    way: u16,
+) -> Moved
+    requires { ⌜ (length (now pages) ≡ 512) × (key ≡ keyOf (core .sw)) × (group ≡ groupOf (core .sw)) × (group < 16)
+        × (way ≡ wayOf (operationOf (n .form))) × (0 < way) ⌝ }
+    ensures { λ r. ⌜ ((lag : ℕ) (ports : List ℕ) → Became (perform (later lag (joined core (now (regs .entry)))) (now (memory .entry)) (now (pages .entry)) ports
+        (spec.carried mil1750 (later lag (joined core (now (regs .entry)))) (now (pages .entry)) ports
+        (spec.view (later lag (joined core (now (regs .entry)))) (now (memory .entry)) (now (pages .entry))) (Prepared.Ready n)))
+        (after (r .lagging) lag (joined (r .core) (now (regs .exit)))) (now (memory .exit)) (now (pages .entry)) ports)
+        × Lasting core r ⌝ }
+{
+    let end = direct(core, key, group, regs, memory, pages, n, way);
+    if end.clear {
+        return weighed(core.pi, end.core);
+    }
+    deny(core, end.fault, advance(core.ic, n.form / 4096))
 }
 
 // An instruction that is ready: its accesses are checked before it changes anything.
@@ -277,10 +347,13 @@ fn carry(
     requires { ⌜ (length (now pages) ≡ 512) × (length (now ports) ≡ 1024) × (key ≡ keyOf (core .sw)) × (group ≡ groupOf (core .sw)) × (group < 16) × Calm lag core × (need ≡ needOf (operationOf (n .form))) ⌝ }
     ensures { λ r. ⌜ (Became (perform (later lag (joined core (now (regs .entry)))) (now (memory .entry)) (now (pages .entry)) (now (ports .entry))
         (spec.carried mil1750 (later lag (joined core (now (regs .entry)))) (now (pages .entry)) (now (ports .entry)) (spec.view (later lag (joined core (now (regs .entry)))) (now (memory .entry)) (now (pages .entry))) (Prepared.Ready n)))
-        (after (r .settled) lag (joined (r .core) (now (regs .exit)))) (now (memory .exit)) (now (pages .exit)) (now (ports .exit))) × (r .settled ≡ true → Settled core (r .core)) ⌝ }
+        (after (r .lagging) lag (joined (r .core) (now (regs .exit)))) (now (memory .exit)) (now (pages .exit)) (now (ports .exit))) × Lasting core r ⌝ }
 {
+    if 128 <= need {
+        return carry_direct(core, key, group, regs, memory, pages, n, need / 128);
+    }
     if need / 64 % 2 == 1 {
-        return carry_block(core, lag, regs, memory, pages, n);
+        return carry_block(core, key, group, regs, memory, pages, n);
     }
     let from = read_start(regs, n, need);
     let g = gather(key, group, memory, pages, from, read_count(n, need));
@@ -299,7 +372,7 @@ fn carry(
             need,
         );
     }
-    deny(core, lag, g.fault, advance(core.ic, n.form / 4096))
+    deny(core, g.fault, advance(core.ic, n.form / 4096))
 }
 
 // The instruction at IC, from a core whose hold mark is clear. The tables are the decoder's and that of needs.
@@ -320,8 +393,8 @@ pub fn instruct(
     ensures { λ r. ⌜ (Became (perform (later lag (joined core (now (regs .entry)))) (now (memory .entry)) (now (pages .entry)) (now (ports .entry))
         (spec.instructed mil1750 (later lag (joined core (now (regs .entry)))) (now (pages .entry)) (now (ports .entry))
         (spec.view (later lag (joined core (now (regs .entry)))) (now (memory .entry)) (now (pages .entry)))))
-        (after (r .settled) lag (joined (r .core) (now (regs .exit)))) (now (memory .exit)) (now (pages .exit)) (now (ports .exit)))
-        × (r .settled ≡ true → Settled core (r .core)) ⌝ }
+        (after (r .lagging) lag (joined (r .core) (now (regs .exit)))) (now (memory .exit)) (now (pages .exit)) (now (ports .exit)))
+        × Lasting core r ⌝ }
 {
     let prepared = prepare(core, key, group, regs, memory, pages, table);
     match prepared {
@@ -329,6 +402,6 @@ pub fn instruct(
             let need = need_with(needs, n.form);
             carry(core, lag, key, group, regs, memory, pages, ports, n, need)
         }
-        Prepared::Denied(b, a) => deny(core, lag, b, a),
+        Prepared::Denied(b, a) => deny(core, b, a),
     }
 }

@@ -1,6 +1,5 @@
 -- `cpu::act::instruct` meets its contract. Assumes nothing.
 use mathlib.Core.Path.{_≡_, refl, sym, ap, _∙_}
-use mathlib.Core.Bool.{false≢true}
 use Rattle.interrupt.specs.Later.{later}
 use Rattle.cpu.proofs.ActLaws.{failed, prepared-later}
 use Rattle.machine.specs.Instructions.{view}
@@ -32,7 +31,7 @@ enum-known-prepared-2 : tie.Need-enum-known-prepared-2
 enum-known-prepared-2 c = search needs
 
 deny-requires : tie.Need-deny-requires
-deny-requires c κs = c .before .before .before .before .before .before .before .before .before .before .pre .6
+deny-requires c κs = search needs
 
 same-length : tie.Need-same-length
 same-length c = search needs
@@ -55,7 +54,7 @@ same-length-5 c = search needs
 
 returns-2 : tie.Need-returns-2
 unfolding instructed carried
-returns-2 c = (rw (c .deny .ensures .0, prepared-later (c .before .before .before .before .before .before .before .before .before .before .before .args .lag) (joined (c .before .before .before .before .before .before .before .before .before .before .before .args .core) (c .before .before .before .before .before .before .before .before .before .before .before .args .regs .now)) (view (joined (c .before .before .before .before .before .before .before .before .before .before .before .args .core) (c .before .before .before .before .before .before .before .before .before .before .before .args .regs .now)) (c .before .before .before .before .before .before .before .before .before .before .before .args .memory .now) (c .before .before .before .before .before .before .before .before .before .before .before .args .pages .now)), ← c .before .before .before .before .prepare .ensures, c .before .before .prepared2 .given .1) (failed (later (c .before .before .before .before .before .before .before .before .before .before .before .args .lag) (joined (c .before .before .before .before .before .before .before .before .before .before .before .args .core) (c .before .before .before .before .before .before .before .before .before .before .before .args .regs .now))) _ (c .before .before .before .before .before .before .before .before .before .before .before .args .memory .now) (c .before .before .before .before .before .before .before .before .before .before .before .args .pages .now) (c .before .before .before .before .before .before .before .before .before .before .before .args .ports .now) _ _ (c .deny .ensures .1 (c .before .before .before .before .before .before .before .before .before .before .before .args .regs .now))), λ h. absurd (false≢true (sym (c .deny .ensures .0) ∙ h)))
+returns-2 c = (rw (c .deny .ensures .0, prepared-later (c .before .before .before .before .before .before .before .before .before .before .before .args .lag) (joined (c .before .before .before .before .before .before .before .before .before .before .before .args .core) (c .before .before .before .before .before .before .before .before .before .before .before .args .regs .now)) (view (joined (c .before .before .before .before .before .before .before .before .before .before .before .args .core) (c .before .before .before .before .before .before .before .before .before .before .before .args .regs .now)) (c .before .before .before .before .before .before .before .before .before .before .before .args .memory .now) (c .before .before .before .before .before .before .before .before .before .before .before .args .pages .now)), ← c .before .before .before .before .prepare .ensures, c .before .before .prepared2 .given .1) (failed (later (c .before .before .before .before .before .before .before .before .before .before .before .args .lag) (joined (c .before .before .before .before .before .before .before .before .before .before .before .args .core) (c .before .before .before .before .before .before .before .before .before .before .before .args .regs .now))) _ (c .before .before .before .before .before .before .before .before .before .before .before .args .memory .now) _ (c .before .before .before .before .before .before .before .before .before .before .before .args .pages .now) (c .before .before .before .before .before .before .before .before .before .before .before .args .ports .now) _ _ (refl) (c .deny .ensures .1 (c .before .before .before .before .before .before .before .before .before .before .before .args .lag) (c .before .before .before .before .before .before .before .before .before .before .before .args .regs .now))), c .deny .ensures .2)
 
 pub instruct-spec : {M : Type 1} → statement M
 instruct-spec =

@@ -1,6 +1,5 @@
 -- `cpu::act::proceed` meets its contract. Assumes nothing.
 use mathlib.Core.Path.{_≡_, refl, sym, ap, _∙_}
-use mathlib.Core.Bool.{false≢true}
 use Rattle.interrupt.specs.Later.{later}
 use Rattle.cpu.proofs.ActLaws.{writes-by, accessed-clear, accessed-fault, failed}
 use Rattle.machine.specs.State.{joined}
@@ -42,7 +41,7 @@ advance-requires : tie.Need-advance-requires
 advance-requires c κs = search needs
 
 deny-requires : tie.Need-deny-requires
-deny-requires c κs = c .before .before .before .before .before .before .before .before .before .before .before .before .before .before .pre .7
+deny-requires c κs = search needs
 
 same-length : tie.Need-same-length
 same-length c = search needs
@@ -60,7 +59,7 @@ same-length-4 : tie.Need-same-length-4
 same-length-4 c = search needs
 
 returns-2 : tie.Need-returns-2
-returns-2 c = (rw (c .deny .ensures .0, ← accessed-fault (later (c .before .before .before .before .before .before .before .before .before .before .before .before .before .before .before .args .lag) (joined (c .before .before .before .before .before .before .before .before .before .before .before .before .before .before .before .args .core) (c .before .before .before .before .before .before .before .before .before .before .before .before .before .before .before .args .regs .now))) (c .before .before .before .before .before .before .before .before .before .before .before .before .before .before .before .args .memory .now) (c .before .before .before .before .before .before .before .before .before .before .before .before .before .before .before .args .pages .now) (c .before .before .before .before .before .before .before .before .before .before .before .before .before .before .before .args .ports .now) (c .before .before .before .before .before .before .before .before .before .before .before .before .before .before .before .args .n) _ _ _ _ (c .before .before .before .before .before .before .before .before .before .before .before .before .before .before .before .pre .4) (c .before .before .before .before .before .before .before .before .before .before .before .before .before .before .before .pre .5) (c .before .before .before .before .before .before .before .before .span-from .ensures ∙ writes-by (c .before .before .before .before .before .before .before .before .before .before .before .before .before .before .before .args .regs .now) (c .before .before .before .before .before .before .before .before .before .before .before .before .before .before .before .args .n) (c .before .before .before .before .before .before .before .before .before .before .before .before .before .before .before .args .need) _ _ (c .before .before .before .before .before .before .before .before .before .before .before .before .before .before .before .pre .8) (c .before .before .before .before .before .before .before .before .before .before .before .before .before .before .before .pre .2) (c .before .before .before .before .before .before .before .before .before .before .write-start .ensures) (c .before .before .before .before .before .before .before .before .before .write-count .ensures .0)) (c .before .before .before .before .before .before .check-span .ensures) _ (c .before .before .before .before .verdict .given .1), ← c .before .advance .ensures) (failed (later (c .before .before .before .before .before .before .before .before .before .before .before .before .before .before .before .args .lag) (joined (c .before .before .before .before .before .before .before .before .before .before .before .before .before .before .before .args .core) (c .before .before .before .before .before .before .before .before .before .before .before .before .before .before .before .args .regs .now))) _ (c .before .before .before .before .before .before .before .before .before .before .before .before .before .before .before .args .memory .now) (c .before .before .before .before .before .before .before .before .before .before .before .before .before .before .before .args .pages .now) (c .before .before .before .before .before .before .before .before .before .before .before .before .before .before .before .args .ports .now) _ _ (c .deny .ensures .1 (c .before .before .before .before .before .before .before .before .before .before .before .before .before .before .before .args .regs .now))), λ h. absurd (false≢true (sym (c .deny .ensures .0) ∙ h)))
+returns-2 c = (rw (c .deny .ensures .0, ← accessed-fault (later (c .before .before .before .before .before .before .before .before .before .before .before .before .before .before .before .args .lag) (joined (c .before .before .before .before .before .before .before .before .before .before .before .before .before .before .before .args .core) (c .before .before .before .before .before .before .before .before .before .before .before .before .before .before .before .args .regs .now))) (c .before .before .before .before .before .before .before .before .before .before .before .before .before .before .before .args .memory .now) (c .before .before .before .before .before .before .before .before .before .before .before .before .before .before .before .args .pages .now) (c .before .before .before .before .before .before .before .before .before .before .before .before .before .before .before .args .ports .now) (c .before .before .before .before .before .before .before .before .before .before .before .before .before .before .before .args .n) _ _ _ _ (c .before .before .before .before .before .before .before .before .before .before .before .before .before .before .before .pre .4) (c .before .before .before .before .before .before .before .before .before .before .before .before .before .before .before .pre .5) (c .before .before .before .before .before .before .before .before .span-from .ensures ∙ writes-by (c .before .before .before .before .before .before .before .before .before .before .before .before .before .before .before .args .regs .now) (c .before .before .before .before .before .before .before .before .before .before .before .before .before .before .before .args .n) (c .before .before .before .before .before .before .before .before .before .before .before .before .before .before .before .args .need) _ _ (c .before .before .before .before .before .before .before .before .before .before .before .before .before .before .before .pre .8) (c .before .before .before .before .before .before .before .before .before .before .before .before .before .before .before .pre .2) (c .before .before .before .before .before .before .before .before .before .before .write-start .ensures) (c .before .before .before .before .before .before .before .before .before .write-count .ensures .0)) (c .before .before .before .before .before .before .check-span .ensures) _ (c .before .before .before .before .verdict .given .1), ← c .before .advance .ensures) (failed (later (c .before .before .before .before .before .before .before .before .before .before .before .before .before .before .before .args .lag) (joined (c .before .before .before .before .before .before .before .before .before .before .before .before .before .before .before .args .core) (c .before .before .before .before .before .before .before .before .before .before .before .before .before .before .before .args .regs .now))) _ (c .before .before .before .before .before .before .before .before .before .before .before .before .before .before .before .args .memory .now) _ (c .before .before .before .before .before .before .before .before .before .before .before .before .before .before .before .args .pages .now) (c .before .before .before .before .before .before .before .before .before .before .before .before .before .before .before .args .ports .now) _ _ (refl) (c .deny .ensures .1 (c .before .before .before .before .before .before .before .before .before .before .before .before .before .before .before .args .lag) (c .before .before .before .before .before .before .before .before .before .before .before .before .before .before .before .args .regs .now))), c .deny .ensures .2)
 
 pub proceed-spec : {M : Type 1} → statement M
 proceed-spec =

@@ -1,18 +1,17 @@
 -- `cpu::run::interrupted` meets its contract. Assumes nothing.
 use mathlib.Core.Path.{_≡_, refl, sym, ap, _∙_}
-use Rattle.cpu.proofs.StepLaws.{entry-step}
+use Rattle.interrupt.proofs.EntryLaws.{entered-by}
 use Rattle.machine.specs.State.{joined}
-use Rattle.machine.specs.Machine.{machine}
-use Rattle.isa.specs.Mil1750.{mil1750}
-use Rattle.machine.specs.Step.{perform}
+use Rattle.cpu.proofs.TimeLaws.{enter-unseen}
+use mathlib.Core.List.{[]}
 use borrow.Author.Needs.{needs}
 use Rattle.cpu.proofs.run.interrupted.Statement.{statement}
 use Rattle.cpu.proofs.run.interrupted.Tie as tie
 use Rattle.cpu.proofs.run.interrupted.Reads as reads
 use Rattle.cpu.proofs.run.interrupted.Lts as lts
-use Rattle.interrupt.proofs.entry.enter.Reads as enter-reads
+use Rattle.interrupt.proofs.entry.arrive.Reads as arrive-reads
+use Rattle.interrupt.proofs.entry.link.Reads as link-reads
 use Rattle.interrupt.proofs.time.release.Reads as release-reads
-use Rattle.interrupt.proofs.time.tick.Reads as tick-reads
 use Rattle.interrupt.proofs.vector.vector.Reads as vector-reads
 
 vector-requires : tie.Need-vector-requires
@@ -21,20 +20,19 @@ vector-requires c κs = search needs
 release-requires : tie.Need-release-requires
 release-requires c κs = search needs
 
-enter-requires : tie.Need-enter-requires
-enter-requires c κs = search needs
+link-requires : tie.Need-link-requires
+link-requires c κs = search needs
 
-tick-requires : tie.Need-tick-requires
-tick-requires c κs = search needs
+arrive-requires : tie.Need-arrive-requires
+arrive-requires c κs = search needs
 
 same-length : tie.Need-same-length
 same-length c = search needs
 
 returns : tie.Need-returns
-unfolding perform
-returns c = λ regs ports e. entry-step mil1750 (machine (joined (c .before .before .before .before .before .before .before .before .before .before .args .core) regs) (c .before .before .before .before .before .before .before .before .before .before .args .memory .now) (c .before .before .before .before .before .before .before .before .before .before .args .pages .now) ports) _ e _ _ regs _ _ ports (c .tick .ensures) (c .before .before .before .before .before .before .before .before .before .before .pre .1) (rw (← c .before .before .before .before .before .release .ensures regs, ← c .before .before .before .before .before .before .vector .ensures) (c .before .before .before .enter .ensures regs ports))
+returns c = (λ lag regs ports. enter-unseen (c .before .before .before .before .before .before .before .before .before .before .args .core) (c .arrive .result) regs (c .before .before .before .before .before .before .before .before .before .before .args .memory .now) (c .before .before .before .before .before .before .before .before .before .before .args .pages .now) ports _ (c .before .before .before .before .before .before .before .before .before .before .args .n) _ _ (c .before .before .before .before .before .release .ensures regs) (c .before .before .before .before .before .before .vector .ensures) (entered-by (joined (c .before .before .before .before .before .release .result) regs) _ (c .before .before .before .before .before .before .before .before .before .before .args .memory .now) _ (c .before .before .before .before .before .before .before .before .before .before .args .pages .now) ports (c .before .before .before .before .before .before .before .before .before .before .args .n) _ _ (c .before .before .before .link .ensures (c .before .before .before .before .before .before .vector .result) refl refl .0) (c .before .before .before .link .ensures (c .before .before .before .before .before .before .vector .result) refl refl .1 (joined (c .before .before .before .before .before .release .result) regs) refl refl refl) (c .arrive .ensures regs)) .0 lag, enter-unseen (c .before .before .before .before .before .before .before .before .before .before .args .core) (c .arrive .result) [] (c .before .before .before .before .before .before .before .before .before .before .args .memory .now) (c .before .before .before .before .before .before .before .before .before .before .args .pages .now) [] _ (c .before .before .before .before .before .before .before .before .before .before .args .n) _ _ (c .before .before .before .before .before .release .ensures []) (c .before .before .before .before .before .before .vector .ensures) (entered-by (joined (c .before .before .before .before .before .release .result) []) _ (c .before .before .before .before .before .before .before .before .before .before .args .memory .now) _ (c .before .before .before .before .before .before .before .before .before .before .args .pages .now) [] (c .before .before .before .before .before .before .before .before .before .before .args .n) _ _ (c .before .before .before .link .ensures (c .before .before .before .before .before .before .vector .result) refl refl .0) (c .before .before .before .link .ensures (c .before .before .before .before .before .before .vector .result) refl refl .1 (joined (c .before .before .before .before .before .release .result) []) refl refl refl) (c .arrive .ensures [])) .1)
 
 pub interrupted-spec : {M : Type 1} → statement M
 interrupted-spec =
     tie.close
-    (tie.spec vector-requires release-requires enter-requires tick-requires same-length returns)
+    (tie.spec vector-requires release-requires link-requires arrive-requires same-length returns)

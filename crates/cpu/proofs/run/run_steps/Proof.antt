@@ -6,18 +6,14 @@ use Rattle.machine.specs.State.{joined}
 use Rattle.machine.specs.Machine.{machine}
 use Rattle.machine.specs.Runs.{steps}
 use Rattle.isa.specs.Mil1750.{mil1750}
-use Rattle.cpu.proofs.StepLaws.{steps-none, steps-step}
-use Rattle.machine.proofs.MachineLaws.{became-machine, machine-became}
+use Rattle.cpu.proofs.StepLaws.{steps-none}
+use Rattle.machine.proofs.MachineLaws.{machine-became}
 use borrow.Author.Needs.{needs}
 use Rattle.cpu.proofs.run.run_steps.Statement.{statement}
 use Rattle.cpu.proofs.run.run_steps.Tie as tie
 use Rattle.cpu.proofs.run.run_steps.Reads as reads
 use Rattle.cpu.proofs.run.run_steps.Lts as lts
 use Rattle.cpu.proofs.run.go_on.Reads as go-on-reads
-use Rattle.cpu.proofs.run.interrupted.Reads as interrupted-reads
-use Rattle.interrupt.proofs.fields.group_of.Reads as group-of-reads
-use Rattle.interrupt.proofs.fields.key_of.Reads as key-of-reads
-use Rattle.interrupt.proofs.pending.choose.Reads as choose-reads
 
 abbrev Inv-loop : tie.InvT-loop
 Inv-loop regs₀ memory₀ pages₀ ports₀ table needs n t₀ due₀ regs memory pages ports t due = (length memory ≡ length memory₀) × (length pages ≡ length pages₀) × (length ports ≡ length ports₀) × (steps mil1750 due₀ (machine (joined t₀ regs₀) memory₀ pages₀ ports₀) ≡ steps mil1750 due (machine (joined t regs) memory pages ports))
@@ -28,35 +24,14 @@ abbrev μ-loop : tie.MeasureT-loop
 loop-holds : tie.Need-loop-holds Inv-loop μ-loop
 loop-holds c = (refl, refl, refl, refl)
 
-choose-requires : tie.Need-choose-requires Inv-loop μ-loop
-choose-requires c κs = omega arith
-
-interrupted-requires : tie.Need-interrupted-requires Inv-loop μ-loop
-interrupted-requires c κs = (omega arith, c .before .before .if1 .taken)
-
-sub-due : tie.Need-sub-due Inv-loop μ-loop
-sub-due c = omega arith
+go-on-requires : tie.Need-go-on-requires Inv-loop μ-loop
+go-on-requires c κs = (omega arith, omega arith, c .before .before .before .before .before .before .before .before .before .pre .2, c .before .before .before .before .before .before .before .before .before .pre .3, c .before .before .before .before .loop-test .taken)
 
 loop-less : tie.Need-loop-less Inv-loop μ-loop
 loop-less c = omega arith
 
 loop-again : tie.Need-loop-again Inv-loop μ-loop
-loop-again c = let l = c .before .before .before .before .before .before .before .before .loop in (c .before .before .interrupted .kept .1 .0 ∙ l .inv .0, l .inv .1, l .inv .2, rw (l .inv .3, steps-step mil1750 (l .due) (machine (joined (l .t) (l .regs)) (l .memory) (l .pages) (l .ports)) (c .before .before .before .before .before .before .before .loop-test .taken), ← became-machine (c .before .before .interrupted .ensures (l .regs) (l .ports) (c .before .before .before .before .before .before .choose .ensures (joined (c .before .before .before .before .before .before .before .before .loop .t) (c .before .before .before .before .before .before .before .before .loop .regs)) refl refl refl refl))) refl)
-
-key-of-requires : tie.Need-key-of-requires Inv-loop μ-loop
-key-of-requires c κs = omega arith
-
-group-of-requires : tie.Need-group-of-requires Inv-loop μ-loop
-group-of-requires c κs = omega arith
-
-go-on-requires : tie.Need-go-on-requires Inv-loop μ-loop
-go-on-requires c κs = (omega arith, omega arith, c .before .before .before .before .before .before .before .before .before .before .before .before .before .pre .2, c .before .before .before .before .before .key-of .ensures .0, c .before .before .before .before .group-of .ensures .0, c .before .before .before .before .group-of .ensures .1, c .before .before .before .before .before .before .before .before .loop-test .taken, rw (← (c .before .before .before .before .before .before .before .choose .ensures (joined (c .before .before .before .before .before .before .before .before .before .loop .t) (c .before .before .before .before .before .before .before .before .before .loop .regs)) refl refl refl refl)) (c .before .before .before .before .before .before .if1 .left), c .before .before .before .before .before .before .before .before .before .before .before .before .before .pre .3)
-
-loop-less-2 : tie.Need-loop-less-2 Inv-loop μ-loop
-loop-less-2 c = omega arith
-
-loop-again-2 : tie.Need-loop-again-2 Inv-loop μ-loop
-loop-again-2 c = let l = c .before .before .before .before .before .before .before .before .before .before .before .before .before .before .before .before .before .loop in (c .before .before .before .before .before .before .before .go-on .kept .1 .1 .1 .1 .0 ∙ l .inv .0, c .before .before .before .before .before .before .before .go-on .kept .1 .1 .1 .1 .1 .0 ∙ l .inv .1, c .before .before .before .before .before .before .before .go-on .kept .1 .1 .1 .1 .1 .1 .0 ∙ l .inv .2, l .inv .3 ∙ c .before .before .before .before .before .before .before .go-on .ensures .1)
+loop-again c = let l = c .before .before .before .before .before .before .before .before .before .before .before .before .before .loop in (c .before .before .before .before .before .before .before .go-on .kept .1 .1 .0 ∙ l .inv .0, c .before .before .before .before .before .before .before .go-on .kept .1 .1 .1 .0 ∙ l .inv .1, c .before .before .before .before .before .before .before .go-on .kept .1 .1 .1 .1 .0 ∙ l .inv .2, l .inv .3 ∙ c .before .before .before .before .before .before .before .go-on .ensures .1)
 
 same-length : tie.Need-same-length Inv-loop μ-loop
 same-length c = c .before .loop .inv .0
@@ -77,16 +52,9 @@ run-steps-spec =
     Inv-loop
     μ-loop
     loop-holds
-    choose-requires
-    interrupted-requires
-    sub-due
+    go-on-requires
     loop-less
     loop-again
-    key-of-requires
-    group-of-requires
-    go-on-requires
-    loop-less-2
-    loop-again-2
     same-length
     same-length-2
     same-length-3

@@ -1,0 +1,115 @@
+-- `cpu::run::obey` meets its contract. Assumes nothing.
+use mathlib.Core.Path.{_≡_, refl, sym, ap, _∙_}
+use native.Mathlib.Omega.{arith}
+use borrow.Author.Tests.{eq-eqb, ne-eqb, le-leb, lt-leb, not-true, not-false}
+use lib.ListN.{length}
+use Prim.Native.Nat.{ℕ, _+_, _≤_, _<_, _-_}
+use Rattle.machine.specs.State.{keyOf, groupOf, joined}
+use Rattle.isa.specs.Mil1750.{mil1750}
+use mathlib.Core.Bool.{false}
+use Rattle.machine.specs.Entries.{chosen}
+use Rattle.interrupt.specs.Later.{Calm, later}
+use Rattle.interrupt.proofs.LaterLaws.{calm-fewer}
+use Rattle.cpu.specs.Settled.{SameTime}
+use Rattle.cpu.proofs.TimeLaws.{same-here, same-onward, calm-same}
+use Rattle.cpu.proofs.StepLaws.{going, row-made, row-on, sw-released, hold-released, time-released, later-released, chosen-released, chosen-later, chosen-settled}
+use borrow.Author.Needs.{needs}
+use Rattle.cpu.proofs.run.obey.Statement.{statement}
+use Rattle.cpu.proofs.run.obey.Tie as tie
+use Rattle.cpu.proofs.run.obey.Reads as reads
+use Rattle.cpu.proofs.run.obey.Lts as lts
+use Rattle.cpu.proofs.act.instruct.Reads as instruct-reads
+use Rattle.cpu.proofs.run.end_of.Reads as end-of-reads
+use Rattle.cpu.proofs.run.ended.Reads as ended-reads
+use Rattle.interrupt.proofs.fields.group_of.Reads as group-of-reads
+use Rattle.interrupt.proofs.fields.key_of.Reads as key-of-reads
+use Rattle.interrupt.proofs.time.release.Reads as release-reads
+
+abbrev Inv-loop : tie.InvT-loop
+Inv-loop from most regs₀ memory₀ pages₀ ports₀ table needs key group end t₀ lag₀ regs memory pages ports t lag = (length memory ≡ length memory₀) × (length pages ≡ length pages₀) × (length ports ≡ length ports₀) × (lag₀ ≤ lag) × (lag < end) × (end ≤ most) × (key ≡ keyOf (t .sw)) × (group ≡ groupOf (t .sw)) × (t .hold ≡ false) × Calm (most - 1) t × (lag + 1 < end → 16 ≤ chosen (joined t regs)) × SameTime t₀ t × ((k : ℕ) → going mil1750 (k + (lag - lag₀)) (later lag₀ (joined t₀ regs₀)) memory₀ pages₀ ports₀ ≡ going mil1750 k (later lag (joined t regs)) memory pages ports)
+
+abbrev μ-loop : tie.MeasureT-loop
+μ-loop from most regs₀ memory₀ pages₀ ports₀ table needs key group end t₀ lag₀ regs memory pages ports t lag = end - lag
+
+key-of-requires : tie.Need-key-of-requires Inv-loop μ-loop
+key-of-requires c κs = omega arith
+
+group-of-requires : tie.Need-group-of-requires Inv-loop μ-loop
+group-of-requires c κs = omega arith
+
+end-of-requires : tie.Need-end-of-requires Inv-loop μ-loop
+end-of-requires c κs = c .before .before .before .before .before .pre .4
+
+release-requires : tie.Need-release-requires Inv-loop μ-loop
+release-requires c κs = omega arith
+
+loop-holds : tie.Need-loop-holds Inv-loop μ-loop
+loop-holds c = (refl, refl, refl, omega arith, c .before .end-of .ensures .1, c .before .end-of .ensures .2, c .before .before .before .key-of .ensures .0 ∙ ap keyOf (sw-released _ _ (c .release .ensures)), c .before .before .group-of .ensures .0 ∙ ap groupOf (sw-released _ _ (c .release .ensures)), hold-released _ _ (c .release .ensures), calm-same _ _ _ (time-released _ _ (c .release .ensures)) (c .before .before .before .before .before .before .before .pre .5), λ h. rw (chosen-released _ _ (c .release .ensures) (c .before .end-of .ensures .3 h) (c .before .before .before .before .before .before .before .args .regs .now)) (c .before .before .before .before .before .before .before .pre .6), same-here _, λ k. ap (λ j. going mil1750 j (later (c .before .before .before .before .before .before .before .args .from) (joined (c .release .result) (c .before .before .before .before .before .before .before .args .regs .now))) (c .before .before .before .before .before .before .before .args .memory .now) (c .before .before .before .before .before .before .before .args .pages .now) (c .before .before .before .before .before .before .before .args .ports .now)) (omega arith))
+
+instruct-requires : tie.Need-instruct-requires Inv-loop μ-loop
+instruct-requires c κs = (omega arith, omega arith, c .before .before .before .before .before .before .before .before .before .before .before .before .pre .2, c .before .before .before .before .loop .inv .6, c .before .before .before .before .loop .inv .7, c .before .before .before .before .before .before .before .group-of .ensures .1, calm-fewer _ _ _ (omega (arith, c .before .before .before .before .loop .inv .4, c .before .before .before .before .loop .inv .5)) (c .before .before .before .before .loop .inv .9), c .before .before .before .before .before .before .before .before .before .before .before .before .pre .3)
+
+add-lag : tie.Need-add-lag Inv-loop μ-loop
+add-lag c = omega (arith, c .before .before .before .before .before .before .before .before .before .before .before .before .loop .inv .4)
+
+ended-requires : tie.Need-ended-requires Inv-loop μ-loop
+ended-requires c κs = omega arith
+
+same-length : tie.Need-same-length Inv-loop μ-loop
+same-length c = let l = c .before .before .before .before .before .before .before .before .before .before .before .before .before .before .before .loop in c .before .before .before .before .before .before .before .before .before .before .instruct .kept .1 .1 .1 .1 .1 .0 ∙ l .inv .0
+
+same-length-2 : tie.Need-same-length-2 Inv-loop μ-loop
+same-length-2 c = let l = c .before .before .before .before .before .before .before .before .before .before .before .before .before .before .before .loop in c .before .before .before .before .before .before .before .before .before .before .instruct .kept .1 .1 .1 .1 .1 .1 .0 ∙ l .inv .1
+
+same-length-3 : tie.Need-same-length-3 Inv-loop μ-loop
+same-length-3 c = let l = c .before .before .before .before .before .before .before .before .before .before .before .before .before .before .before .loop in c .before .before .before .before .before .before .before .before .before .before .instruct .kept .1 .1 .1 .1 .1 .1 .1 .0 ∙ l .inv .2
+
+returns : tie.Need-returns Inv-loop μ-loop
+returns c = let l = c .before .before .before .before .before .before .before .before .before .before .before .before .before .before .before .loop in rw (c .ended .ensures) (record { onward = omega (arith, l .inv .3); within = omega (arith, l .inv .4, l .inv .5); time-kept = λ h. same-onward _ _ _ (time-released _ _ (c .before .before .before .before .before .before .before .before .before .before .before .before .before .before .before .before .release .ensures)) (same-onward _ _ _ (l .inv .11) (c .before .before .before .before .before .before .before .before .before .before .instruct .ensures .1 .time-kept h)); made = row-made mil1750 (c .before .before .before .before .before .before .before .before .before .before .before .before .before .before .before .before .before .before .before .before .before .before .before .args .from) (l .lag) (l .inv .3) (later (c .before .before .before .before .before .before .before .before .before .before .before .before .before .before .before .before .before .before .before .before .before .before .before .args .from) (joined (c .before .before .before .before .before .before .before .before .before .before .before .before .before .before .before .before .release .result) (c .before .before .before .before .before .before .before .before .before .before .before .before .before .before .before .before .before .before .before .before .before .before .before .args .regs .now))) (later (l .lag) (joined (l .t) (l .regs))) (c .before .before .before .before .before .before .before .before .before .before .before .before .before .before .before .before .before .before .before .before .before .before .before .args .memory .now) (c .before .before .before .before .before .before .before .before .before .before .before .before .before .before .before .before .before .before .before .before .before .before .before .args .pages .now) (c .before .before .before .before .before .before .before .before .before .before .before .before .before .before .before .before .before .before .before .before .before .before .before .args .ports .now) (l .memory) (l .pages) (l .ports) (l .inv .12) (c .before .before .before .before .before .before .before .before .before .before .instruct .result .lagging) (c .before .before .before .before .before .before .before .before .before .before .instruct .result .core) _ _ _ _ (c .before .before .before .before .before .before .before .before .before .before .instruct .ensures .0) (later (c .before .before .before .before .before .before .before .before .before .before .before .before .before .before .before .before .before .before .before .before .before .before .before .args .from) (joined (c .before .before .before .before .before .before .before .before .before .before .before .before .before .before .before .before .before .before .before .before .before .before .before .args .core) (c .before .before .before .before .before .before .before .before .before .before .before .before .before .before .before .before .before .before .before .before .before .before .before .args .regs .now))) (later-released _ _ (c .before .before .before .before .before .before .before .before .before .before .before .before .before .before .before .before .release .ensures) (c .before .before .before .before .before .before .before .before .before .before .before .before .before .before .before .before .before .before .before .before .before .before .before .args .from) (c .before .before .before .before .before .before .before .before .before .before .before .before .before .before .before .before .before .before .before .before .before .before .before .args .regs .now)) (rw (chosen-later (c .before .before .before .before .before .before .before .before .before .before .before .before .before .before .before .before .before .before .before .before .before .before .before .args .from) (joined (c .before .before .before .before .before .before .before .before .before .before .before .before .before .before .before .before .before .before .before .before .before .before .before .args .core) (c .before .before .before .before .before .before .before .before .before .before .before .before .before .before .before .before .before .before .before .before .before .before .before .args .regs .now))) (c .before .before .before .before .before .before .before .before .before .before .before .before .before .before .before .before .before .before .before .before .before .before .before .pre .6)) })
+
+ended-requires-2 : tie.Need-ended-requires-2 Inv-loop μ-loop
+ended-requires-2 c κs = omega arith
+
+same-length-4 : tie.Need-same-length-4 Inv-loop μ-loop
+same-length-4 c = let l = c .before .before .before .before .before .before .before .before .before .before .before .before .before .before .before .before .loop in c .before .before .before .before .before .before .before .before .before .before .before .instruct .kept .1 .1 .1 .1 .1 .0 ∙ l .inv .0
+
+same-length-5 : tie.Need-same-length-5 Inv-loop μ-loop
+same-length-5 c = let l = c .before .before .before .before .before .before .before .before .before .before .before .before .before .before .before .before .loop in c .before .before .before .before .before .before .before .before .before .before .before .instruct .kept .1 .1 .1 .1 .1 .1 .0 ∙ l .inv .1
+
+same-length-6 : tie.Need-same-length-6 Inv-loop μ-loop
+same-length-6 c = let l = c .before .before .before .before .before .before .before .before .before .before .before .before .before .before .before .before .loop in c .before .before .before .before .before .before .before .before .before .before .before .instruct .kept .1 .1 .1 .1 .1 .1 .1 .0 ∙ l .inv .2
+
+returns-2 : tie.Need-returns-2 Inv-loop μ-loop
+returns-2 c = let l = c .before .before .before .before .before .before .before .before .before .before .before .before .before .before .before .before .loop in rw (c .ended2 .ensures) (record { onward = omega (arith, l .inv .3); within = omega (arith, l .inv .4, l .inv .5); time-kept = λ h. same-onward _ _ _ (time-released _ _ (c .before .before .before .before .before .before .before .before .before .before .before .before .before .before .before .before .before .release .ensures)) (same-onward _ _ _ (l .inv .11) (c .before .before .before .before .before .before .before .before .before .before .before .instruct .ensures .1 .time-kept h)); made = row-made mil1750 (c .before .before .before .before .before .before .before .before .before .before .before .before .before .before .before .before .before .before .before .before .before .before .before .before .args .from) (l .lag) (l .inv .3) (later (c .before .before .before .before .before .before .before .before .before .before .before .before .before .before .before .before .before .before .before .before .before .before .before .before .args .from) (joined (c .before .before .before .before .before .before .before .before .before .before .before .before .before .before .before .before .before .release .result) (c .before .before .before .before .before .before .before .before .before .before .before .before .before .before .before .before .before .before .before .before .before .before .before .before .args .regs .now))) (later (l .lag) (joined (l .t) (l .regs))) (c .before .before .before .before .before .before .before .before .before .before .before .before .before .before .before .before .before .before .before .before .before .before .before .before .args .memory .now) (c .before .before .before .before .before .before .before .before .before .before .before .before .before .before .before .before .before .before .before .before .before .before .before .before .args .pages .now) (c .before .before .before .before .before .before .before .before .before .before .before .before .before .before .before .before .before .before .before .before .before .before .before .before .args .ports .now) (l .memory) (l .pages) (l .ports) (l .inv .12) (c .before .before .before .before .before .before .before .before .before .before .before .instruct .result .lagging) (c .before .before .before .before .before .before .before .before .before .before .before .instruct .result .core) _ _ _ _ (c .before .before .before .before .before .before .before .before .before .before .before .instruct .ensures .0) (later (c .before .before .before .before .before .before .before .before .before .before .before .before .before .before .before .before .before .before .before .before .before .before .before .before .args .from) (joined (c .before .before .before .before .before .before .before .before .before .before .before .before .before .before .before .before .before .before .before .before .before .before .before .before .args .core) (c .before .before .before .before .before .before .before .before .before .before .before .before .before .before .before .before .before .before .before .before .before .before .before .before .args .regs .now))) (later-released _ _ (c .before .before .before .before .before .before .before .before .before .before .before .before .before .before .before .before .before .release .ensures) (c .before .before .before .before .before .before .before .before .before .before .before .before .before .before .before .before .before .before .before .before .before .before .before .before .args .from) (c .before .before .before .before .before .before .before .before .before .before .before .before .before .before .before .before .before .before .before .before .before .before .before .before .args .regs .now)) (rw (chosen-later (c .before .before .before .before .before .before .before .before .before .before .before .before .before .before .before .before .before .before .before .before .before .before .before .before .args .from) (joined (c .before .before .before .before .before .before .before .before .before .before .before .before .before .before .before .before .before .before .before .before .before .before .before .before .args .core) (c .before .before .before .before .before .before .before .before .before .before .before .before .before .before .before .before .before .before .before .before .before .before .before .before .args .regs .now))) (c .before .before .before .before .before .before .before .before .before .before .before .before .before .before .before .before .before .before .before .before .before .before .before .before .pre .6)) })
+
+loop-less : tie.Need-loop-less Inv-loop μ-loop
+loop-less c = omega (arith, c .before .before .before .before .before .before .before .before .before .before .before .before .before .before .before .loop .inv .4)
+
+loop-again : tie.Need-loop-again Inv-loop μ-loop
+loop-again c = let l = c .before .before .before .before .before .before .before .before .before .before .before .before .before .before .before .loop in let y = not-false (c .before .before .before .before .before .before .before .before .before .before .instruct .result .settled) (c .before .if1 .left) in let z = c .before .before .before .before .before .before .before .before .before .before .instruct .ensures .1 in let s = z .choice-kept y in let w = z .time-kept (z .lags y) in (c .before .before .before .before .before .before .before .before .before .before .instruct .kept .1 .1 .1 .1 .1 .0 ∙ l .inv .0, c .before .before .before .before .before .before .before .before .before .before .instruct .kept .1 .1 .1 .1 .1 .1 .0 ∙ l .inv .1, c .before .before .before .before .before .before .before .before .before .before .instruct .kept .1 .1 .1 .1 .1 .1 .1 .0 ∙ l .inv .2, omega (arith, l .inv .3), c .if2 .left, l .inv .5, l .inv .6 ∙ sym (s .key-kept), l .inv .7 ∙ sym (s .group-kept), s .hold-kept ∙ l .inv .8, calm-same _ _ _ w (l .inv .9), λ h. rw (chosen-settled _ _ s (l .regs) _) (l .inv .10 (c .if2 .left)), same-onward _ _ _ (l .inv .11) w, row-on mil1750 (c .before .before .before .before .before .before .before .before .before .before .before .before .before .before .before .before .before .before .before .before .before .before .before .args .from) (l .lag) (l .inv .3) (later (c .before .before .before .before .before .before .before .before .before .before .before .before .before .before .before .before .before .before .before .before .before .before .before .args .from) (joined (c .before .before .before .before .before .before .before .before .before .before .before .before .before .before .before .before .release .result) (c .before .before .before .before .before .before .before .before .before .before .before .before .before .before .before .before .before .before .before .before .before .before .before .args .regs .now))) (later (l .lag) (joined (l .t) (l .regs))) (c .before .before .before .before .before .before .before .before .before .before .before .before .before .before .before .before .before .before .before .before .before .before .before .args .memory .now) (c .before .before .before .before .before .before .before .before .before .before .before .before .before .before .before .before .before .before .before .before .before .before .before .args .pages .now) (c .before .before .before .before .before .before .before .before .before .before .before .before .before .before .before .before .before .before .before .before .before .before .before .args .ports .now) (l .memory) (l .pages) (l .ports) (l .inv .12) (c .before .before .before .before .before .before .before .before .before .before .instruct .result .lagging) (c .before .before .before .before .before .before .before .before .before .before .instruct .result .core) _ _ _ _ (c .before .before .before .before .before .before .before .before .before .before .instruct .ensures .0) (z .lags y) (s .hold-kept ∙ l .inv .8) (rw (chosen-settled _ _ s (l .regs) _) (l .inv .10 (c .if2 .left))) (calm-fewer _ _ _ (omega (arith, c .if2 .left, l .inv .5)) (calm-same _ _ _ w (l .inv .9))))
+
+pub obey-spec : {M : Type 1} → statement M
+obey-spec =
+    tie.close
+    (tie.spec
+    Inv-loop
+    μ-loop
+    key-of-requires
+    group-of-requires
+    end-of-requires
+    release-requires
+    loop-holds
+    instruct-requires
+    add-lag
+    ended-requires
+    same-length
+    same-length-2
+    same-length-3
+    returns
+    ended-requires-2
+    same-length-4
+    same-length-5
+    same-length-6
+    returns-2
+    loop-less
+    loop-again)
