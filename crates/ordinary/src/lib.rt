@@ -178,7 +178,8 @@ pub fn store_words(sw: u16, memory: &mut [u16], pages: &[u16], span: Span, x: u1
     store_at(key, group, memory, pages, span, 2, c, z);
 }
 
-// What an operation does, by ranges of paragraphs; x, y and z are the words read.
+// What an operation does, by ranges of paragraphs; x, y and z are the words read. Bits and shifts have two ranges each: a function that is called
+// twice stays one of its own, and the step without them is small enough to be put inline as a whole.
 pub fn ordinary(
     regs: &[u16; 16],
     ic: u16,
@@ -192,8 +193,10 @@ pub fn ordinary(
     ensures { λ r. ⌜ worked (now (regs .entry)) r ≡ ordinary (context (now (regs .entry)) ic sw pi) n x y z (operationOf (n .form)) ⌝ }
 {
     match n.form % 256 {
-        0..=9 => bit_operation(regs, ic, sw, pi, n, x),
-        10..=23 => shift_operation(regs, ic, sw, pi, n),
+        0..=5 => bit_operation(regs, ic, sw, pi, n, x),
+        6..=9 => bit_operation(regs, ic, sw, pi, n, x),
+        10..=17 => shift_operation(regs, ic, sw, pi, n),
+        18..=23 => shift_operation(regs, ic, sw, pi, n),
         24..=37 => jump_operation(regs, ic, sw, pi, n, x),
         38..=44 => load_operation(regs, ic, sw, pi, n, x, y, z),
         45..=54 => store_operation(regs, ic, sw, pi, n, x),
