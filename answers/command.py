@@ -81,12 +81,10 @@ A = {
         returns_3='(%s, tt)' % input_of(ranges(2) + ', ← @take2 .ensures', ' refl'),
         returns_4='(%s, tt)' % input_of(ranges(3) + ', ← @take3 .ensures', ' refl'),
         returns_5='(%s, @state-input2 .ensures .1)' % input_of(ranges(4, False), ' (@state-input2 .ensures .0 _ _ ra)')),
-    'supervise': by(COMMANDS + ' supervisedBy becomes', OUTCOME + ' governed Kept', use=[TESTS, LAWS],
-        returns='(rw (eq-eqb _ _ (@if1 .taken)) (ap (becomes _ _) (@load-status .ensures _)), tt, tt, tt)',
-        returns_2='(rw (ne-eqb _ _ (@if1 .left), ← @resume .ensures _, ← @field-a .ensures .0, ← @get .ensures) (@output .ensures .0 _ _), same (@output .result) _, @output .ensures .1, @output .ensures .2)',
-        returns_3='(rw (ne-eqb _ _ (@if1 .left), ← @resume .ensures _, ← @field-a .ensures .0, ← @get .ensures) (@input .ensures .0 _), @input .ensures .1, same (@input .result) _, same (@input .result) _)'),
+    'transfer': by(OUTCOME + ' governed Kept', use=[TESTS, LAWS],
+        returns='(rw (← @resume .ensures _, ← @field-a .ensures .0, ← @get .ensures) (@output .ensures .0 _ _), same (@output .result) _, @output .ensures .1, @output .ensures .2)',
+        returns_2='(rw (← @resume .ensures _, ← @field-a .ensures .0, ← @get .ensures) (@input .ensures .0 _), @input .ensures .1, same (@input .result) _, same (@input .result) _)'),
 }
 for need, names in (('4', 'withEnabled withHold'), ('8', 'withTa withTaOn'), ('9', 'withTa withTaOn'), ('11', 'withTb withTbOn'), ('12', 'withTb withTbOn')):
     A['xio/state_output']['unf']['returns-' + need] = 'stateCommand becomes governed ' + names
-for fn, needs, names in (('xio/output', '25', 'commanded'), ('supervise', '23', 'supervisedBy')):
-    A[fn]['unf'].update({'returns-' + need: names for need in needs})
+A['xio/output']['unf'].update({'returns-' + need: 'commanded' for need in '25'})

@@ -12,6 +12,7 @@ ISA = 'Rattle.isa.specs.Mil1750.'
 ACT = 'Rattle.cpu.proofs.ActLaws.'
 LAWS = 'Rattle.cpu.proofs.StepLaws.'
 TIME = 'Rattle.cpu.proofs.TimeLaws.'
+SYSTEM = 'Rattle.cpu.proofs.SystemLaws.'
 ENTRIES = 'Rattle.machine.specs.Entries.'
 ENTRY_LAWS = 'Rattle.interrupt.proofs.EntryLaws.{entered-by}'
 FAULTS = 'Rattle.page.specs.Spans.{wrapped}'
@@ -33,16 +34,15 @@ JOINED = '(later (@args .lag) %s)' % PLAIN
 LISTS = '(@args .memory .now) (@args .pages .now) (@args .ports .now)'
 VERDICT = '_ _ _ (@reads .ensures .0) (@writes .ensures .0) (@verify .ensures)'
 WORDS = '(wordsOf (keyOf (@args .core .sw)) (groupOf (@args .core .sw)) (@args .pages .now) (length (@args .memory .now)) %s (@args .memory .now))'
-CLASS = 'rw (← @class-of .ensures, @%s) '
 PREPARED = 'prepared-later (@args .lag) %s (view %s (@args .memory .now) (@args .pages .now)), ← @prepare .ensures' % (PLAIN, PLAIN)
 LATER = 'Rattle.interrupt.specs.Later.{later}'
 CHECKED = '← @key-of .ensures .0, ← @group-of .ensures .0, ← @check-span .ensures, @%s .given .1'
 FORM = '(@args .n .form) (@args .need)'
-OFF_BLOCK = '(off-block %s (@Start .pre .6) (@if2 .left))' % FORM
+OFF_BLOCK = '(off-block %s (@Start .pre .6) (@if3 .left))' % FORM
 FROM = ('%s (@args .memory .now) (@args .pages .now) (@args .n) _ _ (@Start .pre .2) (@Start .pre .3) _ _ _ '
         '(reads-by (@args .regs .now) (@args .n) (@args .need) _ _ (@Start .pre .6) %s (@read-start .ensures) (@read-count .ensures .0)) (@gather .ensures)' % (JOINED, OFF_BLOCK))
-TO = '@span-from .ensures ∙ writes-by (@args .regs .now) (@args .n) (@args .need) _ _ (@Start .pre .8) (@Start .pre .2) (@write-start .ensures) (@write-count .ensures .0)'
-STORES = '%s %s (@args .n) _ _ _ _ (@Start .pre .4) (@Start .pre .5) (%s) (@check-span .ensures)' % (JOINED, LISTS, TO)
+TO = '@span-from .ensures ∙ writes-by (@args .regs .now) (@args .n) (@args .need) _ _ (@Start .pre .6) (@Start .pre .1) (@write-start .ensures) (@write-count .ensures .0)'
+STORES = '(later lag %s) (@args .memory .now) (@args .pages .now) ports (@args .n) _ _ _ _ (@Start .pre .3) (@Start .pre .4) (%s) (@check-span .ensures)' % (PLAIN, TO)
 # what a user's operation leaves, by the call that gave its core; and what a fault leaves
 def settled(effect):
     return 'settled-by (@args .core) _ _ (@args .regs .now) _ _ (@weighed .ensures .1) (@weighed .ensures .2) (@weighed .ensures .0) (@%s)' % effect
@@ -71,6 +71,8 @@ ATTEMPT = 'attempt-%%s %s (@args .memory .now) (@args .pages .now) (@args .n) _ 
 FINISHED = ATTEMPT % ('done', 'taken')
 HERE = 'Rattle.block.proofs.HereLaws.{attempt-done, attempt-left}'
 
+LOADED = '(later lag %s) (@args .memory .now) (@args .pages .now) ports (@args .n) (@Start .pre .4) _ _ (@Start .pre .1) (@Start .pre .2) _ (@read-operand .ensures)' % PLAIN
+
 A = {
     'act/verify': by(STAGES + ' both', use=[STATE + '{keyOf, groupOf}'],
         returns='rw (%s) (@check-span2 .ensures)' % (CHECKED % 'enum-told'), returns_2='rw (%s) refl' % (CHECKED % 'verdict')),
@@ -91,7 +93,7 @@ A = {
             '(became-worked lag %s (@args .memory .now) (@args .pages .now) ports (@args .n) _ _ _ _ (%s .worked) (@weighed .ensures .3 _ _)), %s)' % (PLAIN, FINISHED, PLAIN, FINISHED, settled('').replace('@)', FINISHED + ' .worked .state-is)')),
         returns_2='rw (← %s .0, ← %s .1) (@carry-words .ensures)' % (ATTEMPT % ('left', 'left'), ATTEMPT % ('left', 'left'))),
     'act/carry_direct': by(STAGES + ' operated', ISA + ' mil1750 contextOf', use=[LATER, ACT + '{carried-clear, carried-fault, failed, became-worked, settled-by}', STATE + '{joined}'],
-        direct_requires='(@Start .pre .0, @Start .pre .1, @Start .pre .2, @Start .pre .3, @Start .pre .4, @Start .pre .5)',
+        direct_requires='(@Start .pre .0, @Start .pre .1, @Start .pre .2, @Start .pre .3, @Start .pre .4, @Start .pre .5, @Start .pre .6)',
         returns='(λ lag ports. rw (← carried-clear (later lag %s) (@args .memory .now) (@args .pages .now) ports (@args .n) _ _ _ refl refl refl (@direct .ensures .when-clear (@if1 .taken) .0), @direct .ensures .by-user) '
             '(became-worked lag %s (@args .memory .now) (@args .pages .now) ports (@args .n) _ _ _ _ (@direct .ensures .when-clear (@if1 .taken) .1) (@weighed .ensures .3 _ _)), %s)'
             % (PLAIN, PLAIN, settled('direct .ensures .when-clear (@if1 .taken) .1 .state-is')),
@@ -103,29 +105,36 @@ A = {
         returns='λ regs ports. rw (← @call-vector .ensures, ← @advance .ensures) (entered-by (withIc (joined (@args .core) regs) (@advance .result)) _ (@args .memory .now) _ (@args .pages .now) ports 5 _ _ %s (@arrive .ensures regs))'
             % (LINKED % ('call-vector', 'call-vector', '(withIc (joined (@args .core) regs) (@advance .result))'))),
     'act/command': by(use=[TIME + '{unsettled-lasting, command-late, behind-calm}', 'mathlib.Core.List.{[]}'], tick_by_requires='behind-calm (@sees-time .result) _ _ (@args .core) (@behind .ensures) (@Start .pre .2)'),
-    'act/operate': by(STAGES + ' operated', ISA + ' mil1750 contextOf', use=[LATER, ACT + '{few-written, worked-ordinary, first-three, became-worked, settled-by}', TIME + '{unsettled-lasting, call-unseen}',
-            STATE + '{joined, keyOf, groupOf}', LENGTH, 'Rattle.page.specs.Spans.{wordsOf}', 'Rattle.isa.specs.Accesses.{readsOf}'],
-        work_requires='(@Start .pre .0, rw (@Start .pre .4) (few-written (@args .regs .now) (@args .n) (@Start .pre .2)))', command_requires='(@Start .pre .0, @Start .pre .1, @Start .pre .5)',
-        returns='(' + CLASS % 'enum-told .given .1' + '(became-worked (@args .lag) %s %s (@args .n) _ _ _ _ (worked-ordinary %s (@args .memory .now) (@args .pages .now) (@args .n) _ _ _ _ (@args .to) _ _ '
-            '(@Start .pre .2) (@Start .pre .3) (@Start .pre .4) (@work .ensures .0) (@work .ensures .1)) (@weighed .ensures .3 _ _)), %s)' % (PLAIN, LISTS, PLAIN, settled('work .ensures .0')),
-        returns_2='(' + CLASS % 'enum-told2 .given .1' + '(rw (← first-three %s (@args .pages .now) (@args .ports .now) (@args .n) %s _ _ _ (@Start .pre .3)) (@command .ensures .0 (@args .memory .now))), @command .ensures .1)'
-            % (JOINED, WORDS % '(readsOf (@args .regs .now) (@args .n))'),
-        returns_3='(' + CLASS % 'enum-told3 .given .1, @unsettled .ensures .1, @unsettled .ensures .0' + '(%s .0 (@args .lag)), unsettled-lasting _ _ (@unsettled .ensures .2) (λ h. rw (@unsettled .ensures .0) (%s .1)))' % (CALLED, CALLED)),
-    'act/proceed': by(use=[LATER, ACT + '{writes-by, accessed-clear, accessed-fault, failed}', STATE + '{joined}'],
-        check_span_requires='(@Start .pre .0, @Start .pre .6)', write_start_requires='@Start .pre .8', write_count_requires='@Start .pre .8',
-        operate_requires='(@Start .pre .0, @Start .pre .1, @Start .pre .2, @Start .pre .3, %s, @Start .pre .7)' % TO,
-        returns='(rw (← accessed-clear %s (@enum-told .given .1)) (@operate .ensures .0), @operate .ensures .1)' % STORES,
-        returns_2='(rw (@deny .ensures .0, ← accessed-fault %s _ (@verdict .given .1), ← @advance .ensures) (%s), %s)' % (STORES, failed(), LASTS)),
+    'act/load': by(use=[LATER, ACT + '{failed}', SYSTEM + '{lst-carried, lst-denied, lst-became}', TIME + '{unsettled-lasting, status-time}', STATE + '{joined}'],
+        returns='(λ lag ports. rw (@unsettled .ensures .1, @unsettled .ensures .0, ← lst-carried %s (@if1 .taken)) (lst-became lag (@args .core) (@load-status .result) %s (@args .memory .now) (@args .pages .now) ports _ _ _ (@load-status .ensures %s)), '
+            'unsettled-lasting _ _ (@unsettled .ensures .2) (λ h. rw (@unsettled .ensures .0) (status-time _ _ %s _ _ _ (@load-status .ensures %s))))' % (LOADED, REGS, REGS, REGS, REGS),
+        returns_2='(λ lag ports. rw (@deny .ensures .0, ← lst-denied %s (@if1 .left), ← @advance .ensures) (%s), %s)' % (LOADED, failed('ports', 'lag'), LASTS)),
+    'act/carry_system': by(use=[LATER, OMEGA, SYSTEM + '{xio-carried, bex-carried}', TIME + '{unsettled-lasting, call-unseen}', STATE + '{joined}', 'Rattle.direct.proofs.WayLaws.{way-most}'],
+        command_requires='(@Start .pre .0, @Start .pre .1, @Start .pre .5)',
+        load_requires='(@Start .pre .0, @Start .pre .2, @Start .pre .3, @Start .pre .4, omega (arith, @Start .pre .6, @Start .pre .7, @if1 .left, @if2 .left, way-most (@args .n .form)))',
+        returns='(rw (← xio-carried %s %s (@args .n) (sym (@Start .pre .6) ∙ @if1 .taken)) (@command .ensures .0 (@args .memory .now)), @command .ensures .1)' % (JOINED, LISTS),
+        returns_2='(rw (@unsettled .ensures .1, @unsettled .ensures .0, ← bex-carried %s %s (@args .n) (sym (@Start .pre .6) ∙ @if2 .taken)) (%s .0 (@args .lag)), '
+            'unsettled-lasting _ _ (@unsettled .ensures .2) (λ h. rw (@unsettled .ensures .0) (%s .1)))' % (JOINED, LISTS, CALLED, CALLED),
+        returns_3='(@load .ensures .0 (@args .lag) (@args .ports .now), @load .ensures .1)'),
+    'act/proceed': by(STAGES + ' operated', ISA + ' mil1750 contextOf', use=[LATER, ACT + '{writes-by, few-written, accessed-clear, accessed-fault, no-way, worked-ordinary, became-worked, settled-by, failed}', STATE + '{joined}'],
+        check_span_requires='(@Start .pre .0, @Start .pre .5)', write_start_requires='@Start .pre .6', write_count_requires='@Start .pre .6',
+        work_requires='(@Start .pre .0, rw (%s) (few-written (@args .regs .now) (@args .n) (@Start .pre .1)))' % TO,
+        returns='(λ lag ports. rw (← accessed-clear %s (@enum-told .given .1), no-way (@args .n) (@args .need) (@Start .pre .6) (@Start .pre .7)) (became-worked lag %s (@args .memory .now) (@args .pages .now) ports (@args .n) _ _ _ _ '
+            '(worked-ordinary %s (@args .memory .now) (@args .pages .now) (@args .n) _ _ _ _ _ _ _ (@Start .pre .1) (@Start .pre .2) (%s) (@work .ensures .0) (@work .ensures .1)) (@weighed .ensures .3 _ _)), %s)'
+            % (STORES, PLAIN, PLAIN, TO, settled('work .ensures .0')),
+        returns_2='(λ lag ports. rw (@deny .ensures .0, ← accessed-fault %s _ (@verdict .given .1), ← @advance .ensures) (%s), %s)' % (STORES, failed('ports', 'lag'), LASTS)),
     'act/carry': by(use=[LATER, OMEGA, ACT + '{on-block, off-block, reads-by, words-read, carried-read, carried-denied, failed}', STATE + '{joined}', 'Rattle.access.proofs.NeedsLaws.{way-told}'],
-        carry_direct_requires='(@Start .pre .0, @Start .pre .2, @Start .pre .3, @Start .pre .4, way-told %s (@Start .pre .6), omega (arith, @if1 .taken))' % FORM,
-        carry_block_requires='(@Start .pre .0, on-block %s (@Start .pre .6) (@if2 .taken), @Start .pre .2, @Start .pre .3, @Start .pre .4)' % FORM,
+        carry_system_requires='(@Start .pre .0, @Start .pre .1, @Start .pre .2, @Start .pre .3, @Start .pre .4, @Start .pre .5, way-told %s (@Start .pre .6), omega (arith, @if1 .taken))' % FORM,
+        carry_direct_requires='(@Start .pre .0, @Start .pre .2, @Start .pre .3, @Start .pre .4, way-told %s (@Start .pre .6), omega (arith, @if2 .taken), omega (arith, @if1 .left))' % FORM,
+        carry_block_requires='(@Start .pre .0, on-block %s (@Start .pre .6) (@if3 .taken), @Start .pre .2, @Start .pre .3, @Start .pre .4)' % FORM,
         read_start_requires='@Start .pre .6', read_count_requires='@Start .pre .6',
         gather_requires='(@Start .pre .0, @Start .pre .4, @read-count .ensures .1)',
-        proceed_requires='(@Start .pre .0, @Start .pre .1, %s, words-read %s (@if3 .taken), @Start .pre .2, @Start .pre .3, @Start .pre .4, @Start .pre .5, @Start .pre .6)' % (OFF_BLOCK, FROM),
-        returns='(@carry-direct .ensures .0 (@args .lag) (@args .ports .now), @carry-direct .ensures .1)',
-        returns_2='(@carry-block .ensures .0 (@args .lag) (@args .ports .now), @carry-block .ensures .1)',
-        returns_3='(rw (← carried-read %s (@args .ports .now) (@if3 .taken)) (@proceed .ensures .0), @proceed .ensures .1)' % FROM,
-        returns_4='(rw (@deny .ensures .0, ← carried-denied %s (@args .ports .now) (@if3 .left), ← @advance .ensures) (%s), %s)' % (FROM, failed(), LASTS)),
+        proceed_requires='(@Start .pre .0, %s, words-read %s (@if4 .taken), @Start .pre .2, @Start .pre .3, @Start .pre .4, @Start .pre .6, omega (arith, @if2 .left))' % (OFF_BLOCK, FROM),
+        returns='@carry-system .ensures',
+        returns_2='(@carry-direct .ensures .0 (@args .lag) (@args .ports .now), @carry-direct .ensures .1)',
+        returns_3='(@carry-block .ensures .0 (@args .lag) (@args .ports .now), @carry-block .ensures .1)',
+        returns_4='(rw (← carried-read %s (@args .ports .now) (@if4 .taken)) (@proceed .ensures .0 (@args .lag) (@args .ports .now)), @proceed .ensures .1)' % FROM,
+        returns_5='(rw (@deny .ensures .0, ← carried-denied %s (@args .ports .now) (@if4 .left), ← @advance .ensures) (%s), %s)' % (FROM, failed(), LASTS)),
     'act/instruct': by(STAGES + ' instructed carried', use=[LATER, ACT + '{failed, prepared-later}', STAGES + '{view}', STATE + '{joined}'],
         prepare_requires='(@Start .pre .0, @Start .pre .3, @Start .pre .4, @Start .pre .5, @Start .pre .2)', need_with_requires='@Start .pre .7',
         carry_requires='(@Start .pre .0, @Start .pre .1, @Start .pre .3, @Start .pre .4, @Start .pre .5, @Start .pre .6, @need-with .ensures)',
@@ -156,10 +165,10 @@ A = {
 }
 for first, at in (('returns', 'governed'), ('returns-2', 'governed2')):
     law = 'governed-done' if first == 'returns' else 'governed-refused'
-    rest = '_ (@%s .given .1)' % at if first == 'returns' else '_ _ (@%s .given .1) (@supervise .ensures .1, @supervise .ensures .2, @supervise .ensures .3) (@refuse .ensures)' % at
+    rest = '_ (@%s .given .1)' % at if first == 'returns' else '_ _ (@%s .given .1) (@transfer .ensures .1, @transfer .ensures .2, @transfer .ensures .3) (@refuse .ensures)' % at
     A['act/govern'][first] = (
-        'λ memory. %s (@args .core) memory (@args .n) (@args .regs .now) _ (@args .pages .now) _ (@args .ports .now) _ (@supervise .result) _ (@supervise .ensures .0) %s' % (law, rest))
-COMMAND = ('command-late (@args .lag) _ _ _ _ (@args .regs .now) %s (@args .pages .now) (@args .ports .now) _ _ _ (@args .n) _ (@sees-time .result) (@sees-time .ensures) (@behind .ensures) '
+        'λ memory. %s (@args .core) memory (@args .n) (@args .regs .now) _ (@args .pages .now) _ (@args .ports .now) _ (@transfer .result) _ (@transfer .ensures .0) %s' % (law, rest))
+COMMAND = ('command-late (@args .lag) _ _ _ _ (@args .regs .now) %s (@args .pages .now) (@args .ports .now) _ _ _ (@args .n) (@sees-time .result) (@sees-time .ensures) (@behind .ensures) '
            '(@tick-by .ensures (@args .regs .now)) (@govern .ensures %s)')
 A['act/command']['returns'] = ('(λ memory. rw (@unsettled .ensures .1, @unsettled .ensures .0) (%s .0), unsettled-lasting _ _ (@unsettled .ensures .2) (rw (@unsettled .ensures .1, @unsettled .ensures .0) (%s .1)))'
     % (COMMAND % ('memory', 'memory'), COMMAND % ('[]', '[]')))

@@ -82,13 +82,13 @@ def reading(way, width, place, calls, given, after):
 
 A['single/into_single'] = reading(1, 16, '(accumulator (@args .n))', '← @accumulator-of .ensures .0, ← @get .ensures, ← @operand-of .ensures', '(@read-operand .result .x)',
     '@put .ensures ∙ ap (λ k. withRegister%s k (@combine16 .result .value)) (@accumulator-of .ensures .0) ∙ ap (λ r. withRegister%s (accumulator (@args .n)) (r .value)) o' % (REGS, REGS))
-PAIR = 'ap (λ %s. withRegister (withRegister' + REGS + ' (%s) (%s)) (%s + 1) (%s))'
+TWO = 'ap (λ %s. withRegister (withRegister' + REGS + ' (%s) (%s)) (%s + 1) (%s))'
 FIRST, VALUE = '@target-of .result', '(@combine32 .result .value)'
 A['double/into_double'] = reading(2, 32, '(target (@args .n))', '← @target-of .ensures .0, ← @get .ensures, ← @get2 .ensures, ← @join .ensures, ← @double-operand .ensures',
     '(@read-operand .result .x) (@read-operand .result .y)',
     '@put2 .ensures ∙ ap (λ r. withRegister r (%s + 1) (@low .result)) (@put .ensures) ∙ %s (@high .ensures) ∙ %s (@low .ensures) ∙ %s (@target-of .ensures .0) ∙ %s o' % (
-        FIRST, PAIR % ('h', FIRST, 'h', FIRST, '@low .result'), PAIR % ('l', FIRST, 'highWord ' + VALUE, FIRST, 'l'),
-        PAIR % ('k', 'k', 'highWord ' + VALUE, 'k', 'lowWord ' + VALUE), PAIR % ('r', 'target (@args .n)', 'highWord (r .value)', 'target (@args .n)', 'lowWord (r .value)')))
+        FIRST, TWO % ('h', FIRST, 'h', FIRST, '@low .result'), TWO % ('l', FIRST, 'highWord ' + VALUE, FIRST, 'l'),
+        TWO % ('k', 'k', 'highWord ' + VALUE, 'k', 'lowWord ' + VALUE), TWO % ('r', 'target (@args .n)', 'highWord (r .value)', 'target (@args .n)', 'lowWord (r .value)')))
 A['double/into_double']['use'] += ['Prim.Native.Nat.{_+_}', WAYS + '{target}', 'Rattle.word.specs.Pair.{highWord, lowWord}', 'Rattle.isa.specs.Words.{registerPair}']
 A['double/into_double']['unf']['*'] += ' registerPair'
 STORED = '(stored (contextOf %s) (@args .n) (@word-stored .result) 0 0)' % LAID
@@ -110,6 +110,30 @@ A['store/store_one'] = {
     'returns-3': 'idle-done %s false (%s ∙ ap (λ b. spanFrom (@args .n .address) (cond b 1 0)) %s) %s _ _ _ (does-store (@args .n) %s _ _) (@done2 .ensures .0) %s' % (
         STORE, words('writes', 3, 0, 1, OF), SEEN % 'left', NOTHING, OF, STATE_AFTER % ('done2', NOTHING))}
 
+# two words: as they were got, and as the definition says
+GOT = '(stored (contextOf %s) (@args .n) (@get .result) (@get2 .result) 0)' % LAID
+KEPT = '(stored (contextOf %s) (@args .n) (register (@args .regs .now) (accumulator (@args .n))) (register (@args .regs .now) (accumulator (@args .n) + 1)) 0)' % LAID
+PAIR = '%s %s %s' % (PARTS, user(5, OF), words('reads', 5, 0, 2, OF))
+UNSEEN = '(sym (@in-memory .ensures) ∙ not-%s (@in-memory .result) (@if1 .%s))'
+BOTH = '%s %s (%s ∙ ap (λ b. spanFrom (@args .n .address) (cond b 2 0)) %s)' % (PAIR, KEYS, words('writes', 5, 0, 2, OF), UNSEEN % ('false', 'left'))
+FOUND = 'located-inside _ _ _ _ _ _ _ _ (@look-up%s .ensures) (@%s .given .1)'
+AT_FIRST = '← @look-up .ensures, @first%s .given .1'
+AT_SECOND = '← @wrapping-add-u16 .ensures, ← @look-up2 .ensures, @second%s .given .1'
+A['store/store_two'] = {
+    'use': [EQUATIONS, OMEGA, 'borrow.Author.Tests.{not-true, not-false}', WAY_LAWS + '{way-user, way-reads, way-writes, does-pair}', END_LAWS + '{pair-done, pair-refused, idle-done}', 'mathlib.Core.Bool.{false, cond}',
+            STATE + '{joined}', ISA + '{contextOf}', 'Rattle.isa.specs.Effects.{effect, stored, following}', 'Rattle.isa.specs.Fields.{withRegisters, register}', 'Rattle.isa.specs.Addressing.{accumulator}',
+            'Prim.Native.Nat.{_+_}', 'Rattle.page.specs.Spans.{wrapped, andThen}',
+            'Rattle.machine.specs.Machine.{spanFrom}', 'Rattle.page.proofs.ReachLaws.{located-inside}'],
+    'unf': {'*': 'contextOf effect stored following withRegisters wrapped andThen'},
+    'put-two-requires': '(%s, %s)' % (FOUND % ('', 'first'), FOUND % ('2', 'second')),
+    'returns': 'idle-done %s false (%s ∙ ap (λ b. spanFrom (@args .n .address) (cond b 2 0)) %s) %s _ _ _ (does-pair (@args .n) %s _ _) (@done .ensures .0) %s' % (
+        PAIR, words('writes', 5, 0, 2, OF), UNSEEN % ('true', 'taken'), KEPT, OF, STATE_AFTER % ('done', KEPT)),
+    'returns-2': 'rw (@put-two .ensures) (pair-done %s _ _ _ _ %s _ _ _ (rw (%s) refl) (rw (%s) refl) refl (rw (@get .ensures, @get2 .ensures, @accumulator-of .ensures .0, @accumulator-of2 .ensures .0) (does-pair (@args .n) %s _ _)) (@done2 .ensures .0) %s)' % (
+        BOTH, GOT, AT_FIRST % '', AT_SECOND % '', OF, STATE_AFTER % ('done2', GOT)),
+    'returns-3': 'pair-refused %s _ _ _ _ (rw (%s, %s) refl) (@refused .ensures .0) (@refused .ensures .1) refl' % (BOTH, AT_FIRST % '', AT_SECOND % '2'),
+    'returns-4': 'pair-refused %s _ _ _ _ (rw (%s) refl) (@refused2 .ensures .0) (@refused2 .ensures .1) refl' % (BOTH, AT_FIRST % '2'),
+}
+
 
 # a branch that is taken or not
 def branched(call, taken, branch, ic):
@@ -127,6 +151,6 @@ A['branch/branch'] = {
     'unf': {'*': 'contextOf effect jumped following withRegisters'},
     'returns': branched('done', 'true', 'taken', 'refl'), 'returns-2': branched('done2', 'false', 'left', '(sym (@following .ensures))')}
 A['direct'] = {
-    'use': [EQUATIONS, OMEGA, WAY_LAWS + '{way-most}'],
-    'branch-requires': 'omega (arith, @Start .pre .4, @Start .pre .5, @if1 .left, @if2 .left, @if3 .left, way-most (@args .n .form))',
-    'returns-4': '@branch .ensures (@args .regs .now) (@args .memory .now) (@args .pages .now)'}
+    'use': [EQUATIONS, OMEGA],
+    'branch-requires': 'omega (arith, @Start .pre .4, @Start .pre .5, @Start .pre .6, @if1 .left, @if2 .left, @if3 .left, @if4 .left)',
+    'returns-5': '@branch .ensures (@args .regs .now) (@args .memory .now) (@args .pages .now)'}

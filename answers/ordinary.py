@@ -13,7 +13,8 @@ WORK = 'Rattle.effect.specs.Work.'
 ISA = 'Rattle.isa.specs.Mil1750.'
 LAWS = 'Rattle.ordinary.proofs.OrdinaryLaws.'
 
-# the groups in the order of their ranges, each with the last paragraph that it serves; the code has two ranges for each of the first two
+# the groups in the order of their ranges, each with the last paragraph that it serves; the code has two ranges for bits, shifts, loads and
+# stores
 RANGES = [('bit', 9), ('shift', 23), ('jump', 37), ('load', 44), ('store', 54), ('integer', 59), ('float', 62), ('integer', 67), ('float', 70),
           ('integer', 73), ('float', 75), ('integer', 78), ('float', 80), ('logical', 84), ('float', 88), ('logical', 93), ('float', 95)]
 
@@ -51,13 +52,13 @@ A = {
         returns=KEYED + '(three-stored (@key-of .result) (@group-of .result) (@args .pages .now) (@args .span) (@args .x) (@args .y) (@args .z) (@args .memory .now) (@Start .pre .1) '
             '_ _ (@wrapping-add-u16 .ensures) (@wrapping-add-u162 .ensures) _ _ _ (@store-at .ensures) (@store-at2 .ensures) (@store-at3 .ensures))'),
     'ordinary': by(use=[OMEGA, LAWS + '{in-range, past-all}', 'Rattle.decode.specs.Forms.{operationOf}', WORK + '{context}'],
-        returns_20='@nothing .ensures (@args .regs .now) ∙ past-all %s 96 refl (omega arith)' % SEEN),
+        returns_22='@nothing .ensures (@args .regs .now) ∙ past-all %s 96 refl (omega arith)' % SEEN),
     'work': by(STEP + ' affected stored', WORK + ' worked', ISA + ' contextOf', STATE + ' withPi withSw withIc withRegs',
         returns='(rw (← @ordinary .ensures, ← @apply .ensures, ← @with-cs .ensures) refl, rw (← @ordinary .ensures) (@store-words .ensures))'),
 }
 
 first = 0
-ARMS = [('bit', 5), ('bit', 9), ('shift', 17), ('shift', 23)] + RANGES[2:]
+ARMS = [('bit', 5), ('bit', 9), ('shift', 17), ('shift', 23), ('jump', 37), ('load', 41), ('load', 44), ('store', 49), ('store', 54)] + RANGES[5:]
 for arm, (group, last) in enumerate(ARMS):
     times = [name for name, _ in ARMS[:arm + 1]].count(group)
     place = [last <= end for _, end in RANGES].index(True)

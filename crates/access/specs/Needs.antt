@@ -1,5 +1,5 @@
 -- What an operation needs, as one number: the words that it reads and writes, whether it is one of the few that are carried out in another way,
--- and the way of one that is carried out directly.
+-- and the way of one that is carried out directly or is no user's.
 -- Assumes nothing.
 use Prim.Native.Nat.{ℕ, _+_, _*_}
 use mathlib.Core.List.{List, [], _∷_}
@@ -16,7 +16,7 @@ exceptions =
     []
 
 -- The ways of the most frequent operations. 1: L A S OR AND, one word into the accumulator. 2: DL DA DS, two words. 3: ST STC, one word stored.
--- 4: JC BR BEZ BLT BLE BGT BNZ BGE, on by CS. 0: any other.
+-- 4: JC BR BEZ BLT BLE BGT BNZ BGE, on by CS. 5: DST, two words stored. The ways of those that are no user's. 6: XIO. 7: BEX. 8: LST. 0: any other.
 unfoldable pub wayOf : ℕ → ℕ
 wayOf operation =
     select operation
@@ -24,6 +24,10 @@ wayOf operation =
     (39, 2) ∷ (59, 2) ∷ (67, 2) ∷
     (45, 3) ∷ (46, 3) ∷
     (24, 4) ∷ (27, 4) ∷ (28, 4) ∷ (29, 4) ∷ (31, 4) ∷ (32, 4) ∷ (33, 4) ∷ (34, 4) ∷
+    (48, 5) ∷
+    (1, 6) ∷
+    (30, 7) ∷
+    (35, 8) ∷
     [])
     0
 

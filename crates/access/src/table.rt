@@ -1,8 +1,9 @@
 // What each operation needs, by its paragraph of section 5: the words that it reads at its derived address, plus 4 times those that it writes
-// there, plus 0x10 for URS, 0x20 for SJS and 0x40 for the operations on blocks, plus 0x80 times the way of one that is carried out directly.
+// there, plus 0x10 for URS, 0x20 for SJS and 0x40 for the operations on blocks, plus 0x80 times the way of one that is carried out directly or is
+// no user's.
 pub const NEEDS: [u16; 256] = [
     0x000, // 0
-    0x000, // 1 XIO
+    0x300, // 1 XIO
     0x000, // 2
     0x005, // 3 SB
     0x005, // 4 RB
@@ -31,12 +32,12 @@ pub const NEEDS: [u16; 256] = [
     0x200, // 27 BR
     0x200, // 28 BEZ
     0x200, // 29 BLT
-    0x000, // 30 BEX
+    0x380, // 30 BEX
     0x200, // 31 BLE
     0x200, // 32 BGT
     0x200, // 33 BNZ
     0x200, // 34 BGE
-    0x003, // 35 LST
+    0x403, // 35 LST
     0x020, // 36 SJS
     0x010, // 37 URS
     0x081, // 38 L
@@ -49,7 +50,7 @@ pub const NEEDS: [u16; 256] = [
     0x184, // 45 ST
     0x184, // 46 STC
     0x040, // 47 MOV
-    0x008, // 48 DST
+    0x288, // 48 DST
     0x005, // 49 SRM
     0x040, // 50 STM
     0x00C, // 51 EFST

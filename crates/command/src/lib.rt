@@ -1,10 +1,8 @@
 // The privileged operations (5.1, 5.35): XIO's commands and LST.
 ghost use mathlib.Core.Path.{_≡_};
-ghost use mathlib.Core.List.{[], _∷_};
 ghost use lib.ListN.{length};
 ghost use Rattle.machine.specs.State.{joined};
-ghost use Rattle.isa.specs.Commands.{supervisedBy};
-ghost use Rattle.command.specs.Outcome.{governed, Kept};
+ghost use Rattle.command.specs.Outcome.{transferred, governed, Kept};
 use access::fields::field_a;
 use access::fields::get;
 use machine::Core;
@@ -19,25 +17,19 @@ pub enum Governed {
     Refused(u16),
 }
 
-// The operation n, for which the words x, y, z were read.
-pub fn supervise(
+// XIO n: the command in its derived operand.
+pub fn transfer(
     core: Core,
     regs: &mut [u16; 16],
     pages: &mut [u16],
     ports: &mut [u16],
     n: Instruction,
-    x: u16,
-    y: u16,
-    z: u16,
 ) -> Governed
     requires { ⌜ (length (now pages) ≡ 512) × (length (now ports) ≡ 1024) ⌝ }
     ensures { λ r. ⌜ (governed r (now (regs .exit)) (now (pages .exit)) (now (ports .exit))
-        ≡ supervisedBy (joined core (now (regs .entry))) (now (pages .entry)) (now (ports .entry)) n (x ∷ y ∷ z ∷ []))
+        ≡ transferred (joined core (now (regs .entry))) (now (pages .entry)) (now (ports .entry)) n)
         × Kept r (now (regs .entry)) (now (regs .exit)) × Kept r (now (pages .entry)) (now (pages .exit)) × Kept r (now (ports .entry)) (now (ports .exit)) ⌝ }
 {
-    if n.form % 256 == 35 {
-        return Governed::Done(parts::load_status(core, x, y, z));
-    }
     let next = parts::resume(core, n);
     let ra = get(regs, field_a(n.first));
     if n.address < 0x8000 {

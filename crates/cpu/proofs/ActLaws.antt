@@ -31,10 +31,10 @@ use Rattle.isa.specs.Addressing.{inMemory}
 use Rattle.isa.specs.Accesses.{wordsMoved, wordsOfInteger, wordsOfFloat, wordsRead, wordsWritten, atOperand, readsOf, writesOf}
 use Rattle.isa.specs.Effects.{Context}
 use Rattle.isa.specs.Execute.{ordinary, executed}
-use Rattle.isa.specs.Commands.{supervisedBy}
 use Rattle.isa.specs.Mil1750.{classOf, contextOf, mil1750}
 use Rattle.access.specs.Needs.{exceptions, wayOf, needOf}
-use Rattle.access.proofs.NeedsLaws.{told, untold, reads-span, writes-span}
+use Rattle.access.proofs.NeedsLaws.{told, untold, reads-span, writes-span, way-told}
+use Rattle.direct.proofs.WayLaws.{way-user}
 use Rattle.command.specs.declared.Governed.{Governed}
 use Rattle.command.specs.declared.Governed.the-variants.{Done, Refused}
 use Rattle.command.specs.Outcome.{governed, Kept}
@@ -283,12 +283,11 @@ pub became-worked : (n : ℕ) (s : State) (m g o : List ℕ) (i : Instruction) (
 unfolding perform affected stored withPi withSw withIc withRegs
 became-worked n s m g o i e t u w b h = record { state-is = h ∙ ap (later n) (b .state-is); memory-is = b .memory-is; pages-is = refl; ports-is = refl }
 
--- ---- a privileged operation: it sees the first three words alone
+-- one without a way is a user's
+pub no-way : (n : Instruction) (need : ℕ) → need ≡ needOf (operationOf (n .form)) → need < 128 → classOf (operationOf (n .form)) ≡ User
+no-way n need e h = let w = way-told (n .form) need e in way-user n 0 (omega (arith, w, h)) (omega arith)
 
-pub first-three : (s : State) (g o : List ℕ) (n : Instruction) (ws : List ℕ) (x y z : ℕ) → FirstThree ws x y z
-    → supervisedBy s g o n (x ∷ y ∷ z ∷ []) ≡ supervisedBy s g o n ws
-unfolding supervisedBy
-first-three s g o n ws x y z e = rw (e .first-is, e .second-is, e .third-is) refl
+-- ---- XIO, done or refused
 
 module _ (c : Core) (m : List ℕ) (n : Instruction) (regs regs' g g' o o' : List ℕ) (v : Governed) (q : Supervised) (e : governed v regs' g' o' ≡ q) where
   pub governed-done : (t : Core) → v ≡ Done t → Became (perform (joined c regs) m g o (supervised (joined c regs) n q)) (joined t regs') m g' o'

@@ -8,7 +8,6 @@ use lib.Dec.{eqb, leb}
 use borrow.Author.Tests.{eqb-true, eqb-false}
 use Rattle.page.specs.declared.Verdict.{Verdict}
 use Rattle.page.specs.declared.Verdict.the-variants.{Clear, Fault}
-use Rattle.decode.specs.Forms.{operationOf}
 use Rattle.machine.specs.declared.State.{State}
 use Rattle.machine.specs.declared.Core.{Core}
 use Rattle.machine.specs.declared.Vector.{Vector}
@@ -18,7 +17,8 @@ use Rattle.machine.specs.Machine.{Machine, machine, Became, Supervised, done, r
 use Rattle.machine.specs.Instructions.{enter, call, supervised}
 use Rattle.machine.specs.Entries.{vectorOf, linked, oldWords, linkStored, arrived}
 use Rattle.machine.specs.Step.{released, faulted, entered, perform}
-use Rattle.isa.specs.Commands.{resumed, withRa, pendingReset, faultsRead, becomes, stateCommand, commanded, statusLoaded, supervisedBy}
+use Rattle.isa.specs.Commands.{resumed, withRa, pendingReset, faultsRead, becomes, stateCommand, commanded, statusLoaded}
+use Rattle.command.specs.Outcome.{transferred}
 use Rattle.interrupt.specs.Later.{Calm, later}
 use Rattle.interrupt.proofs.LaterLaws.{calm-alike, calm-fewer, later-none}
 use Rattle.cpu.specs.declared.act.Moved.{Moved}
@@ -146,7 +146,16 @@ module _ (c d : Core) (regs m g o m' : List ℕ) (n : ℕ) where
 
 -- ---- privileged operations
 
--- the results of a choice that is the same twice
+-- LST
+pub status-unseen : (n : ℕ) (s t : State) (x y z : ℕ) → t ≡ statusLoaded s x y z → later n t ≡ statusLoaded (later n s) x y z
+unfolding statusLoaded withIc withSw withMk
+status-unseen n s t x y z h = ap (later n) h
+
+pub status-time : (c d : Core) (regs : List ℕ) (x y z : ℕ) → joined d regs ≡ statusLoaded (joined c regs) x y z → SameTime c d
+unfolding statusLoaded withIc withSw withMk
+status-time c d regs x y z h = same-by c d regs regs (statusLoaded (joined c regs) x y z) h refl
+
+-- XIO: the results of a choice that is the same twice
 either-at : (t : Time) (b : Bool) (x y u v : Supervised) → (b ≡ true → x ≡ at-supervised t u) → y ≡ at-supervised t v → cond b x y ≡ at-supervised t (cond b u v)
 either-at t true x y u v h k = h refl
 either-at t false x y u v h k = k
@@ -202,18 +211,18 @@ module _ (t : Time) (s : State) (g o : List ℕ) (n : Instruction) where
       (either-at t (leb command 0xD2FF) _ _ _ _ (λ e. refl)
       other)))))))))
 
-module _ (t : Time) (s : State) (m g o : List ℕ) (n : Instruction) (ws : List ℕ) (h : n .address / 16384 % 2 ≡ 1 → ⊥) where
-  supervised-at : supervisedBy (at t s) g o n ws ≡ at-supervised t (supervisedBy s g o n ws)
-  unfolding supervisedBy becomes statusLoaded resumed nextOf advanced withIc withSw withMk
-  supervised-at = either-at t (eqb (operationOf (n .form)) 35) _ _ _ _ (λ e. refl) (commanded-at t (resumed s n) g o n _ (n .address) h)
+module _ (t : Time) (s : State) (m g o : List ℕ) (n : Instruction) (h : n .address / 16384 % 2 ≡ 1 → ⊥) where
+  transferred-at : transferred (at t s) g o n ≡ at-supervised t (transferred s g o n)
+  unfolding resumed nextOf advanced withIc
+  transferred-at = commanded-at t (resumed s n) g o n _ (n .address) h
 
   by-result : (q : Supervised) → perform (at t s) m g o (supervised (at t s) n (at-supervised t q)) ≡ at-machine t (perform s m g o (supervised s n q))
   unfolding perform supervised faulted nextOf advanced withFt withPi withIc
   by-result (done r) = refl
   by-result (refused b) = refl
 
-  govern-at : perform (at t s) m g o (supervised (at t s) n (supervisedBy (at t s) g o n ws)) ≡ at-machine t (perform s m g o (supervised s n (supervisedBy s g o n ws)))
-  govern-at = rw supervised-at (by-result (supervisedBy s g o n ws))
+  govern-at : perform (at t s) m g o (supervised (at t s) n (transferred (at t s) g o n)) ≡ at-machine t (perform s m g o (supervised s n (transferred s g o n)))
+  govern-at = rw transferred-at (by-result (transferred s g o n))
 
 -- the ticks by which it is to catch up first
 pub behind-calm : (timed : Bool) (lag k : ℕ) (c : Core) → k ≡ cond timed lag 0 → Calm lag c → Calm k c
@@ -221,9 +230,9 @@ behind-calm true lag k c e h = subst (λ j. Calm j c) (sym e) h
 behind-calm false lag k c e h = calm-fewer k lag c (omega arith) h
 
 -- from a core that caught up where the operation may see the time
-module _ (lag k : ℕ) (c late d : Core) (regs m g o regs' g' o' : List ℕ) (n : Instruction) (ws : List ℕ) where
+module _ (lag k : ℕ) (c late d : Core) (regs m g o regs' g' o' : List ℕ) (n : Instruction) where
   abbrev commands : State → Machine
-  commands s = perform s m g o (supervised s n (supervisedBy s g o n ws))
+  commands s = perform s m g o (supervised s n (transferred s g o n))
 
   pub command-late : (timed : Bool) → timed ≡ eqb (n .address / 16384 % 2) 1 → k ≡ cond timed lag 0 → joined late regs ≡ later k (joined c regs)
       → Became (commands (joined late regs)) (joined d regs') m g' o'
@@ -233,5 +242,5 @@ module _ (lag k : ℕ) (c late d : Core) (regs m g o regs' g' o' : List ℕ) (n 
   command-late false i e h b =
       let u = subst (λ s. Became (commands s) (joined d regs') m g' o') (h ∙ ap (λ j. later j (joined c regs)) e ∙ later-none (joined c regs)) b in
       let w : (t : Time) → commands (at t (joined c regs)) ≡ at-machine t (commands (joined c regs)) =
-      λ t. govern-at t (joined c regs) m g o n ws (eqb-false (n .address / 16384 % 2) 1 (sym i)) in
+      λ t. govern-at t (joined c regs) m g o n (eqb-false (n .address / 16384 % 2) 1 (sym i)) in
       (later-unseen commands c d regs regs' m g' o' w u lag, λ q. time-unseen commands c d regs regs' m g' o' w u)

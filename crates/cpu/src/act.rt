@@ -3,7 +3,7 @@
 // commands of timers see the time.
 ghost use mathlib.Core.Path.{_≡_};
 ghost use mathlib.Core.Bool.{true, false, cond};
-ghost use mathlib.Core.List.{List, [], _∷_};
+ghost use mathlib.Core.List.{List};
 ghost use Prim.Native.Nat.{ℕ, _+_, _/_, _<_, _%_};
 ghost use lib.ListN.{length};
 ghost use Rattle.page.specs.Spans.{wrapped, checked, wordsOf};
@@ -14,9 +14,9 @@ ghost use Rattle.machine.specs.Machine.{Became};
 ghost use Rattle.machine.specs.Instructions as spec;
 ghost use Rattle.machine.specs.Step.{faulted, perform};
 ghost use Rattle.isa.specs.Accesses.{readsOf, writesOf};
-ghost use Rattle.isa.specs.Commands.{supervisedBy};
-ghost use Rattle.isa.specs.Mil1750.{classOf, mil1750};
+ghost use Rattle.isa.specs.Mil1750.{mil1750};
 ghost use Rattle.access.specs.Needs.{wayOf, needOf, allNeeds};
+ghost use Rattle.command.specs.Outcome.{transferred};
 ghost use Rattle.block.specs.Operation.{isBlock};
 ghost use Rattle.ordinary.specs.Gathers.{FirstThree};
 ghost use Rattle.interrupt.specs.Later.{Calm, later};
@@ -33,8 +33,10 @@ use access::needs::write_start;
 use block::block;
 use block::here::try_block;
 use command::Governed;
-use command::supervise;
+use command::parts::load_status;
+use command::transfer;
 use direct::direct;
+use direct::operand::read_operand;
 use interrupt::entry::arrive;
 use interrupt::entry::link;
 use interrupt::fields::advance;
@@ -43,7 +45,6 @@ use interrupt::fields::key_of;
 use interrupt::later::tick_by;
 use interrupt::time::fault;
 use interrupt::vector::call_vector;
-use machine::Class;
 use machine::Core;
 use machine::Instruction;
 use machine::Prepared;
@@ -54,7 +55,6 @@ use page::Access;
 use page::Span;
 use page::Verdict;
 use page::lookup::check_span;
-use prepare::class_of;
 use prepare::prepare;
 
 // The core after an instruction. Where it is settled, no other interrupt is to be chosen than before, by the same key and address state.
@@ -165,31 +165,27 @@ fn carry_block(
     carry_words(core, regs, memory, pages, n)
 }
 
-// A privileged operation on the words x, y and z.
+// XIO, done or refused.
 fn govern(
     core: Core,
     regs: &mut [u16; 16],
     pages: &mut [u16],
     ports: &mut [u16],
     n: Instruction,
-    x: u16,
-    y: u16,
-    z: u16,
 ) -> Core
     requires { ⌜ (length (now pages) ≡ 512) × (length (now ports) ≡ 1024) ⌝ }
     ensures { λ r. ⌜ ((memory : List ℕ) → Became (perform (joined core (now (regs .entry))) memory (now (pages .entry)) (now (ports .entry))
-        (spec.supervised (joined core (now (regs .entry))) n
-        (supervisedBy (joined core (now (regs .entry))) (now (pages .entry)) (now (ports .entry)) n (x ∷ y ∷ z ∷ []))))
+        (spec.supervised (joined core (now (regs .entry))) n (transferred (joined core (now (regs .entry))) (now (pages .entry)) (now (ports .entry)) n)))
         (joined r (now (regs .exit))) memory (now (pages .exit)) (now (ports .exit))) ⌝ }
 {
-    let governed = supervise(core, regs, pages, ports, n, x, y, z);
+    let governed = transfer(core, regs, pages, ports, n);
     match governed {
         Governed::Done(t) => t,
         Governed::Refused(b) => refuse(core, n.form, b),
     }
 }
 
-// Whether an operation may see the time: of XIO's commands, which are its address, those of timers have the second bit set.
+// Whether XIO may see the time: of its commands, which are its address, those of timers have the second bit set.
 fn sees_time(address: u16) -> bool
     ensures { λ r. ⌜ r ≡ eqb (address / 16384 % 2) 1 ⌝ }
 {
@@ -203,7 +199,7 @@ fn behind(timed: bool, lag: u32) -> u32
     if timed { lag } else { 0 }
 }
 
-// A privileged operation on the words x, y and z, with any memory, from a core that may lag.
+// XIO with any memory, from a core that may lag.
 fn command(
     core: Core,
     lag: u32,
@@ -211,19 +207,16 @@ fn command(
     pages: &mut [u16],
     ports: &mut [u16],
     n: Instruction,
-    x: u16,
-    y: u16,
-    z: u16,
 ) -> Moved
     requires { ⌜ (length (now pages) ≡ 512) × (length (now ports) ≡ 1024) × Calm lag core ⌝ }
     ensures { λ r. ⌜ ((memory : List ℕ) → Became (perform (later lag (joined core (now (regs .entry)))) memory (now (pages .entry)) (now (ports .entry))
         (spec.supervised (later lag (joined core (now (regs .entry)))) n
-        (supervisedBy (later lag (joined core (now (regs .entry)))) (now (pages .entry)) (now (ports .entry)) n (x ∷ y ∷ z ∷ []))))
+        (transferred (later lag (joined core (now (regs .entry)))) (now (pages .entry)) (now (ports .entry)) n)))
         (after (r .lagging) lag (joined (r .core) (now (regs .exit)))) memory (now (pages .exit)) (now (ports .exit))) × Lasting core r ⌝ }
 {
     let timed = sees_time(n.address);
     let late = tick_by(core, behind(timed, lag));
-    let done = govern(late, regs, pages, ports, n, x, y, z);
+    let done = govern(late, regs, pages, ports, n);
     unsettled(!timed, done)
 }
 
@@ -239,42 +232,32 @@ fn call(core: Core, memory: &mut [u16], pages: &[u16], k: u16) -> Core
     arrive(core, 5, v, refusal)
 }
 
-// An operation on at most three words, which are x, y and z, whose accesses are open, by its class.
-fn operate(
+// LST (5.35), with any ports, however far the core lags: its words are read before it changes anything.
+fn load(
     core: Core,
-    lag: u32,
-    regs: &mut [u16; 16],
-    memory: &mut [u16],
-    pages: &mut [u16],
-    ports: &mut [u16],
+    key: u16,
+    group: u16,
+    regs: &[u16; 16],
+    memory: &[u16],
+    pages: &[u16],
     n: Instruction,
-    x: u16,
-    y: u16,
-    z: u16,
-    to: Span,
 ) -> Moved
-    requires { ⌜ (length (now pages) ≡ 512) × (length (now ports) ≡ 1024) × (isBlock (operationOf (n .form)) ≡ false)
-        × FirstThree (wordsOf (keyOf (core .sw)) (groupOf (core .sw)) (now pages) (length (now memory)) (readsOf (now regs) n) (now memory)) x y z
-        × (to ≡ writesOf (now regs) n) × Calm lag core ⌝ }
-    ensures { λ r. ⌜ (Became (perform (later lag (joined core (now (regs .entry)))) (now (memory .entry)) (now (pages .entry)) (now (ports .entry))
-        (spec.operated mil1750 (later lag (joined core (now (regs .entry)))) (now (pages .entry)) (now (ports .entry)) (classOf (operationOf (n .form))) n
-        (wordsOf (keyOf (core .sw)) (groupOf (core .sw)) (now (pages .entry)) (length (now (memory .entry))) (readsOf (now (regs .entry)) n) (now (memory .entry)))))
-        (after (r .lagging) lag (joined (r .core) (now (regs .exit)))) (now (memory .exit)) (now (pages .exit)) (now (ports .exit)))
+    requires { ⌜ (length (now pages) ≡ 512) × (key ≡ keyOf (core .sw)) × (group ≡ groupOf (core .sw)) × (group < 16) × (wayOf (operationOf (n .form)) ≡ 8) ⌝ }
+    ensures { λ r. ⌜ ((lag : ℕ) (ports : List ℕ) → Became (perform (later lag (joined core (now (regs .entry)))) (now (memory .entry)) (now (pages .entry)) ports
+        (spec.carried mil1750 (later lag (joined core (now (regs .entry)))) (now (pages .entry)) ports
+        (spec.view (later lag (joined core (now (regs .entry)))) (now (memory .entry)) (now (pages .entry))) (Prepared.Ready n)))
+        (after (r .lagging) lag (joined (r .core) (now (regs .entry)))) (now (memory .entry)) (now (pages .entry)) ports)
         × Lasting core r ⌝ }
 {
-    let class = class_of(n.form % 256);
-    match class {
-        Class::User => {
-            let done = work(core, regs, memory, pages, n, x, y, z, to);
-            weighed(core.pi, done)
-        }
-        Class::Supervisor => command(core, lag, regs, pages, ports, n, x, y, z),
-        Class::Executive => unsettled(true, call(core, memory, pages, n.first % 16)),
+    let words = read_operand(key, group, memory, pages, n, 3);
+    if words.clear {
+        return unsettled(true, load_status(core, words.x, words.y, words.z));
     }
+    deny(core, words.fault, advance(core.ic, n.form / 4096))
 }
 
-// An operation on at most three words, which have been read as g: its stores are checked before it changes anything.
-fn proceed(
+// An operation that is no user's, by its way: XIO, BEX or LST.
+fn carry_system(
     core: Core,
     lag: u32,
     key: u16,
@@ -284,23 +267,52 @@ fn proceed(
     pages: &mut [u16],
     ports: &mut [u16],
     n: Instruction,
+    way: u16,
+) -> Moved
+    requires { ⌜ (length (now pages) ≡ 512) × (length (now ports) ≡ 1024) × (key ≡ keyOf (core .sw)) × (group ≡ groupOf (core .sw)) × (group < 16) × Calm lag core
+        × (way ≡ wayOf (operationOf (n .form))) × (5 < way) ⌝ }
+    ensures { λ r. ⌜ (Became (perform (later lag (joined core (now (regs .entry)))) (now (memory .entry)) (now (pages .entry)) (now (ports .entry))
+        (spec.carried mil1750 (later lag (joined core (now (regs .entry)))) (now (pages .entry)) (now (ports .entry)) (spec.view (later lag (joined core (now (regs .entry)))) (now (memory .entry)) (now (pages .entry))) (Prepared.Ready n)))
+        (after (r .lagging) lag (joined (r .core) (now (regs .exit)))) (now (memory .exit)) (now (pages .exit)) (now (ports .exit))) × Lasting core r ⌝ }
+{
+    if way == 6 {
+        return command(core, lag, regs, pages, ports, n);
+    }
+    if way == 7 {
+        return unsettled(true, call(core, memory, pages, n.first % 16));
+    }
+    load(core, key, group, regs, memory, pages, n)
+}
+
+// A user's operation on at most three words, which have been read as g, with any ports: its stores are checked before it changes anything.
+fn proceed(
+    core: Core,
+    key: u16,
+    group: u16,
+    regs: &mut [u16; 16],
+    memory: &mut [u16],
+    pages: &[u16],
+    n: Instruction,
     g: Gathered,
     need: u16,
 ) -> Moved
-    requires { ⌜ (length (now pages) ≡ 512) × (length (now ports) ≡ 1024) × (isBlock (operationOf (n .form)) ≡ false)
-        × FirstThree (wordsOf (keyOf (core .sw)) (groupOf (core .sw)) (now pages) (length (now memory)) (readsOf (now regs) n) (now memory)) (g .x) (g .y) (g .z) × (key ≡ keyOf (core .sw)) × (group ≡ groupOf (core .sw)) × (group < 16) × Calm lag core
-        × (need ≡ needOf (operationOf (n .form))) ⌝ }
-    ensures { λ r. ⌜ (Became (perform (later lag (joined core (now (regs .entry)))) (now (memory .entry)) (now (pages .entry)) (now (ports .entry))
-        (spec.accessed mil1750 (later lag (joined core (now (regs .entry)))) (now (pages .entry)) (now (ports .entry))
+    requires { ⌜ (length (now pages) ≡ 512) × (isBlock (operationOf (n .form)) ≡ false)
+        × FirstThree (wordsOf (keyOf (core .sw)) (groupOf (core .sw)) (now pages) (length (now memory)) (readsOf (now regs) n) (now memory)) (g .x) (g .y) (g .z) × (key ≡ keyOf (core .sw)) × (group ≡ groupOf (core .sw)) × (group < 16)
+        × (need ≡ needOf (operationOf (n .form))) × (need < 128) ⌝ }
+    ensures { λ r. ⌜ ((lag : ℕ) (ports : List ℕ) → Became (perform (later lag (joined core (now (regs .entry)))) (now (memory .entry)) (now (pages .entry)) ports
+        (spec.accessed mil1750 (later lag (joined core (now (regs .entry)))) (now (pages .entry)) ports
         (spec.view (later lag (joined core (now (regs .entry)))) (now (memory .entry)) (now (pages .entry))) n
         (checked (keyOf (core .sw)) (groupOf (core .sw)) (now (pages .entry)) (length (now (memory .entry))) (writesOf (now (regs .entry)) n) Access.Write)))
-        (after (r .lagging) lag (joined (r .core) (now (regs .exit)))) (now (memory .exit)) (now (pages .exit)) (now (ports .exit)))
+        (after (r .lagging) lag (joined (r .core) (now (regs .exit)))) (now (memory .exit)) (now (pages .entry)) ports)
         × Lasting core r ⌝ }
 {
     let to = span_from(write_start(regs, n, need), write_count(n, need));
     let verdict = check_span(Access::Write, key, group, pages, memory.len(), to);
     match verdict {
-        Verdict::Clear => operate(core, lag, regs, memory, pages, ports, n, g.x, g.y, g.z, to),
+        Verdict::Clear => {
+            let done = work(core, regs, memory, pages, n, g.x, g.y, g.z, to);
+            weighed(core.pi, done)
+        }
         Verdict::Fault(b) => deny(core, b, advance(core.ic, n.form / 4096)),
     }
 }
@@ -317,7 +329,7 @@ fn carry_direct(
     way: u16,
 ) -> Moved
     requires { ⌜ (length (now pages) ≡ 512) × (key ≡ keyOf (core .sw)) × (group ≡ groupOf (core .sw)) × (group < 16)
-        × (way ≡ wayOf (operationOf (n .form))) × (0 < way) ⌝ }
+        × (way ≡ wayOf (operationOf (n .form))) × (0 < way) × (way < 6) ⌝ }
     ensures { λ r. ⌜ ((lag : ℕ) (ports : List ℕ) → Became (perform (later lag (joined core (now (regs .entry)))) (now (memory .entry)) (now (pages .entry)) ports
         (spec.carried mil1750 (later lag (joined core (now (regs .entry)))) (now (pages .entry)) ports
         (spec.view (later lag (joined core (now (regs .entry)))) (now (memory .entry)) (now (pages .entry))) (Prepared.Ready n)))
@@ -349,6 +361,10 @@ fn carry(
         (spec.carried mil1750 (later lag (joined core (now (regs .entry)))) (now (pages .entry)) (now (ports .entry)) (spec.view (later lag (joined core (now (regs .entry)))) (now (memory .entry)) (now (pages .entry))) (Prepared.Ready n)))
         (after (r .lagging) lag (joined (r .core) (now (regs .exit)))) (now (memory .exit)) (now (pages .exit)) (now (ports .exit))) × Lasting core r ⌝ }
 {
+    if 768 <= need {
+        let way = need / 128;
+        return carry_system(core, lag, key, group, regs, memory, pages, ports, n, way);
+    }
     if 128 <= need {
         return carry_direct(core, key, group, regs, memory, pages, n, need / 128);
     }
@@ -358,19 +374,7 @@ fn carry(
     let from = read_start(regs, n, need);
     let g = gather(key, group, memory, pages, from, read_count(n, need));
     if g.clear {
-        return proceed(
-            core,
-            lag,
-            key,
-            group,
-            regs,
-            memory,
-            pages,
-            ports,
-            n,
-            g,
-            need,
-        );
+        return proceed(core, key, group, regs, memory, pages, n, g, need);
     }
     deny(core, g.fault, advance(core.ic, n.form / 4096))
 }

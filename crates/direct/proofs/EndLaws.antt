@@ -52,7 +52,7 @@ module _ (c r : Core) (regs : List ℕ) (n : Instruction) (k ic cs bits : ℕ) (
   unfolding doubleOutcome result effect following withRegisters contextOf
   double-after after h = rw h (f regs (doubleOutcome (contextOf (joined c regs)) n k o) (sym i) (sym j) (ap (bitOr (c .pi)) (sym b)))
 
--- ---- a span of no words, and of one
+-- ---- a span of no words, of one, and of two
 
 module _ (key group : ℕ) (g : List ℕ) (size a : ℕ) where
   pub none-checked : (k : Access) (b : Bool) → checked key group g size (spanFrom a (cond b 0 0)) k ≡ Clear
@@ -72,6 +72,15 @@ module _ (key group : ℕ) (g : List ℕ) (size a : ℕ) where
   pub one-written : (x : ℕ) (m : List ℕ) → written key group g size (spanFrom a 1) (three x 0 0) m ≡ putAt m (lookup Write key group g size a) x
   unfolding written writtenFrom passed
   one-written x m = refl
+
+  pub two-checked : (k : Access) → checked key group g size (spanFrom a 2) k ≡ andThen (lookup k key group g size a) (andThen (lookup k key group g size (wrapped (a + 1))) Clear)
+  unfolding checked checkedFrom passed
+  two-checked k = refl
+
+  pub two-written : (x y : ℕ) (m : List ℕ)
+      → written key group g size (spanFrom a 2) (three x y 0) m ≡ putAt (putAt m (lookup Write key group g size a) x) (lookup Write key group g size (wrapped (a + 1))) y
+  unfolding written writtenFrom passed
+  two-written x y m = refl
 
 -- ---- the end of an instruction, from the verdicts on the words that it reads and on those that it writes
 
@@ -126,7 +135,7 @@ module _ (s : State) (m g : List ℕ) (n : Instruction) (user : classOf (operati
     unfolding both
     read-refused c fault t h r q j = ended-refused c fault t (rw (denied-gathered _ _ v gathers h, q) refl) r j
 
-  -- ---- none is read; one is written, where the operand is in memory
+  -- ---- none is read; one or two are written, where the operand is in memory
 
   module _ (reads : readsOf (s .regs) n ≡ spanFrom (n .address) (cond (inMemory (modeOf (n .form))) 0 0)) where
     unread : reading ≡ Clear
@@ -158,3 +167,23 @@ module _ (s : State) (m g : List ℕ) (n : Instruction) (user : classOf (operati
       unfolding both andThen
       store-refused b c fault t h r y j =
           ended-refused c fault t (rw (unread, placed, h, y) refl) r j
+
+    -- two
+    module _ (key group : ℕ) (d : key ≡ keyOf (s .sw)) (e : group ≡ groupOf (s .sw)) (writes : writesOf (s .regs) n ≡ spanFrom (n .address) 2) where
+      abbrev at : ℕ → Place
+      at a = lookup Write key group g (length m) a
+
+      both-placed : writing ≡ andThen (at (n .address)) (andThen (at (wrapped (n .address + 1))) Clear)
+      both-placed = rw (writes, ← d, ← e) (two-checked key group g (length m) (n .address) Write)
+
+      pub pair-done : (p q x y : ℕ) (f : Effect) (c : Bool) (fault : ℕ) (t : State) → at (n .address) ≡ At p → at (wrapped (n .address + 1)) ≡ At q → f .words ≡ three x y 0
+          → executed (contextOf s) n (wordsRead s m g n) ≡ f → c ≡ true → t ≡ affected s f → Ended s m g n c fault t (set (set m p x) q y)
+      unfolding stored andThen putAt
+      pair-done p q x y f c fault t h i k z r j =
+          ended-clear f c fault t (set (set m p x) q y) unread (both-placed ∙ rw (h, i) refl) z r j
+          (rw (writes, k, ← d, ← e) (sym (two-written key group g (length m) (n .address) x y m ∙ rw (h, i) refl)))
+
+      pub pair-refused : (b : ℕ) (c : Bool) (fault : ℕ) (t : State) → andThen (at (n .address)) (andThen (at (wrapped (n .address + 1))) Clear) ≡ Fault b
+          → c ≡ false → fault ≡ b → t .regs ≡ s .regs → Ended s m g n c fault t m
+      unfolding both
+      pair-refused b c fault t h r y j = ended-refused c fault t (rw (unread, both-placed, h, y) refl) r j

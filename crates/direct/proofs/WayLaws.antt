@@ -17,7 +17,7 @@ use Rattle.machine.specs.declared.Class.the-variants.{User}
 use Rattle.machine.specs.State.{csOf}
 use Rattle.machine.specs.Machine.{Effect, spanFrom}
 use Rattle.fixed.specs.Fixed.{Outcome}
-use Rattle.isa.specs.Fields.{fieldA, register}
+use Rattle.isa.specs.Fields.{register}
 use Rattle.isa.specs.Addressing.{inMemory, operand, doubleOperand, accumulator}
 use Rattle.isa.specs.Accesses.{wordsMoved, wordsOfInteger, wordsOfFloat, wordsRead, wordsWritten, readsOf, writesOf}
 use Rattle.isa.specs.Effects.{Context, fixedOverflow, single, double, stored, jumped}
@@ -31,10 +31,10 @@ use Rattle.direct.specs.Ways.{plain, intoSingle, intoDouble, target, wor
 
 -- ---- the way of an operation
 
--- no way is above 4
-pub way-most : (form : ℕ) → wayOf (operationOf form) ≤ 4
+-- no way is above 8
+pub way-most : (form : ℕ) → wayOf (operationOf form) ≤ 8
 unfolding wayOf
-way-most form = leb-true _ _ (passes (λ (k : ℕ). leb (wayOf k) 4) 256 refl (operationOf form) (omega arith))
+way-most form = leb-true _ _ (passes (λ (k : ℕ). leb (wayOf k) 8) 256 refl (operationOf form) (omega arith))
 
 -- what is tested at every operation whose way is w holds of each of them
 of-way : (w : ℕ) (f : ℕ → Bool) → ((k : ℕ) → k < 256 → not (eqb (wayOf k) w) || f k ≡ true) → (k : ℕ) → k < 256 → wayOf k ≡ w → f k ≡ true
@@ -43,34 +43,50 @@ of-way w f t k h e =
 
 -- the words read and written of each way, as a need
 abbrev needs : ℕ → ℕ
-needs w = 128 * w + select w ((1, 1) ∷ (2, 2) ∷ (3, 4) ∷ []) 0
+needs w = 128 * w + select w ((1, 1) ∷ (2, 2) ∷ (3, 4) ∷ (5, 8) ∷ (8, 3) ∷ []) 0
 
 needs-told : (k : ℕ) → k < 256 → eqb (wayOf k) 0 || eqb (needOf k) (needs (wayOf k)) ≡ true
 unfolding needOf exceptions wayOf wordsRead wordsMoved wordsOfFloat wordsOfInteger wordsWritten
 needs-told k h = passes (λ (j : ℕ). eqb (wayOf j) 0 || eqb (needOf j) (needs (wayOf j))) 256 refl k h
 
+-- the operation of each way above 5
+abbrev pub systemOf : ℕ → ℕ
+systemOf w = select w ((6, 1) ∷ (7, 30) ∷ []) 35
+
+systems-told : (k : ℕ) → k < 256 → leb (wayOf k) 5 || eqb k (systemOf (wayOf k)) ≡ true
+unfolding wayOf
+systems-told k h = passes (λ (j : ℕ). leb (wayOf j) 5 || eqb j (systemOf (wayOf j))) 256 refl k h
+
 -- ---- an instruction whose way is w
 
-module _ (n : Instruction) (w : ℕ) (e : wayOf (operationOf (n .form)) ≡ w) (h : 0 < w) where
-  need-is : needOf (operationOf (n .form)) ≡ needs w
-  need-is =
+module _ (n : Instruction) (w : ℕ) (e : wayOf (operationOf (n .form)) ≡ w) where
+  need-is : 0 < w → needOf (operationOf (n .form)) ≡ needs w
+  need-is h =
       either (eqb (wayOf (operationOf (n .form))) 0) (eqb (needOf (operationOf (n .form))) (needs (wayOf (operationOf (n .form)))))
       (λ u. let z : wayOf (operationOf (n .form)) ≡ 0 = eqb-true _ _ u in absurd (omega (arith, z, e, h)))
       (λ u. eqb-true _ _ u ∙ ap needs e)
       (needs-told (operationOf (n .form)) (omega arith))
 
-  -- it is another one than j, which has no way
-  other : (j : ℕ) → wayOf j ≡ 0 → eqb (operationOf (n .form)) j ≡ false
-  other j i = by (eqb (operationOf (n .form)) j) refl
+  -- above 5 it tells the operation
+  pub way-system : 5 < w → operationOf (n .form) ≡ systemOf w
+  way-system h =
+      either (leb (wayOf (operationOf (n .form))) 5) (eqb (operationOf (n .form)) (systemOf (wayOf (operationOf (n .form)))))
+      (λ u. let z : wayOf (operationOf (n .form)) ≤ 5 = leb-true _ _ u in absurd (omega (arith, z, e, h)))
+      (λ u. eqb-true _ _ u ∙ ap systemOf e)
+      (systems-told (operationOf (n .form)) (omega arith))
+
+  -- it is another one than j, which has another way
+  other : (j i : ℕ) → wayOf j ≡ i → (i ≡ w → ⊥) → eqb (operationOf (n .form)) j ≡ false
+  other j i d h = by (eqb (operationOf (n .form)) j) refl
     where
       by : (b : Bool) → eqb (operationOf (n .form)) j ≡ b → eqb (operationOf (n .form)) j ≡ false
-      by true u = let z : wayOf (operationOf (n .form)) ≡ wayOf j = ap wayOf (eqb-true _ _ u) in absurd (omega (arith, z, e, h, i))
+      by true u = absurd (h (sym d ∙ sym (ap wayOf (eqb-true _ _ u)) ∙ e))
       by false u = u
 
-  -- any key may run it
-  pub way-user : classOf (operationOf (n .form)) ≡ User
+  -- up to 5 any key may run it
+  pub way-user : w < 6 → classOf (operationOf (n .form)) ≡ User
   unfolding classOf privilegedOperations wayOf
-  way-user = rw (other 30 refl, other 1 refl, other 35 refl) refl
+  way-user h = rw (other 30 7 refl (λ z. omega (arith, z, h)), other 1 6 refl (λ z. omega (arith, z, h)), other 35 8 refl (λ z. omega (arith, z, h))) refl
 
 -- the words that it reads and writes, by the way's need
 module _ (n : Instruction) (w k j : ℕ) (e : wayOf (operationOf (n .form)) ≡ w) (h : 0 < w)
@@ -99,6 +115,9 @@ threes = 45 ∷ 46 ∷ []
 
 abbrev fours : List ℕ
 fours = 24 ∷ 27 ∷ 28 ∷ 29 ∷ 31 ∷ 32 ∷ 33 ∷ 34 ∷ []
+
+abbrev fives : List ℕ
+fives = 48 ∷ []
 
 module _ (n : Instruction) where
   -- what a way's operations do, given of each of them
@@ -145,6 +164,14 @@ module _ (n : Instruction) where
   does-store =
       does 3 threes (λ v ws. stored v n (wordStored (v .regs) n) 0 0) (passes (λ k. not (eqb (wayOf k) 3) || among k threes) 256 refl)
       (λ e v ws. rw e refl, (λ e v ws. rw e refl, tt))
+
+  -- two are
+  pub does-pair : wayOf (operationOf (n .form)) ≡ 5 → (v : Context) (ws : List ℕ)
+      → executed v n ws ≡ stored v n (register (v .regs) (accumulator n)) (register (v .regs) (accumulator n + 1)) 0
+  unfolding executed ordinary storeOperation wayOf
+  does-pair =
+      does 5 fives (λ v ws. stored v n (register (v .regs) (accumulator n)) (register (v .regs) (accumulator n + 1)) 0) (passes (λ k. not (eqb (wayOf k) 5) || among k fives) 256 refl)
+      (λ e v ws. rw e refl, tt)
 
   -- on to the derived address or the next instruction
   pub does-branch : wayOf (operationOf (n .form)) ≡ 4 → (v : Context) (ws : List ℕ) → executed v n ws ≡ jumped v n (isTaken n (csOf (v .sw)))

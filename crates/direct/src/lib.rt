@@ -1,4 +1,4 @@
-// The most frequent operations, each carried out at once by its way: one or two words into the accumulator, one word stored, on by CS. What they
+// The most frequent operations, each carried out at once by its way: one or two words into the accumulator, one or two stored, on by CS. What they
 // come to is what the definitions of all operations say; the way there is shorter. Callers have 512 page registers; key and group are those of SW.
 ghost use mathlib.Core.Path.{_≡_};
 ghost use Prim.Native.Nat.{_<_};
@@ -11,6 +11,7 @@ use crate::branch::branch;
 use crate::double::into_double;
 use crate::single::into_single;
 use crate::store::store_one;
+use crate::store::store_two;
 use machine::Core;
 use machine::Instruction;
 
@@ -28,7 +29,7 @@ pub struct Ending {
     pub core: Core,
 }
 
-// The operation of the instruction n by its way, which is not 0.
+// The operation of the instruction n by its way, which is from 1 to 5.
 pub fn direct(
     core: Core,
     key: u16,
@@ -39,7 +40,7 @@ pub fn direct(
     n: Instruction,
     way: u16,
 ) -> Ending
-    requires { ⌜ (length (now pages) ≡ 512) × (key ≡ keyOf (core .sw)) × (group ≡ groupOf (core .sw)) × (group < 16) × (way ≡ wayOf (operationOf (n .form))) × (0 < way) ⌝ }
+    requires { ⌜ (length (now pages) ≡ 512) × (key ≡ keyOf (core .sw)) × (group ≡ groupOf (core .sw)) × (group < 16) × (way ≡ wayOf (operationOf (n .form))) × (0 < way) × (way < 6) ⌝ }
     ensures { λ r. ⌜ Ended (joined core (now (regs .entry))) (now (memory .entry)) (now (pages .entry)) n (r .clear) (r .fault) (joined (r .core) (now (regs .exit))) (now (memory .exit)) ⌝ }
 {
     if way == 1 {
@@ -50,6 +51,9 @@ pub fn direct(
     }
     if way == 3 {
         return store_one(core, key, group, regs, memory, pages, n);
+    }
+    if way == 5 {
+        return store_two(core, key, group, regs, memory, pages, n);
     }
     branch(core, n)
 }

@@ -1,7 +1,7 @@
-// One word stored: ST STC (5.45, 5.46).
+// One word or two stored: ST STC (5.45, 5.46), DST (5.48).
 ghost use mathlib.Core.Path.{_≡_};
 ghost use Prim.Native.Nat.{_<_};
-ghost use lib.ListN.{length};
+ghost use lib.ListN.{length, set};
 ghost use Rattle.decode.specs.Forms.{operationOf};
 ghost use Rattle.machine.specs.State.{keyOf, groupOf, joined};
 ghost use Rattle.access.specs.Needs.{wayOf};
@@ -21,6 +21,7 @@ use machine::Instruction;
 use page::Access;
 use page::Place;
 use page::lookup::look_up;
+use std::num::wrapping_add_u16;
 
 // The word: the accumulator, or the constant of STC.
 fn word_stored(regs: &[u16; 16], n: Instruction) -> u16
@@ -61,4 +62,50 @@ pub fn store_one(
         }
     }
     done(core, next, cs, 0)
+}
+
+// x goes to p, then y to q; both are inside.
+fn put_two(memory: &mut [u16], p: usize, q: usize, x: u16, y: u16)
+    requires { ⌜ (p < length (now memory)) × (q < length (now memory)) ⌝ }
+    ensures { λ r. ⌜ now (memory .exit) ≡ set (set (now (memory .entry)) p x) q y ⌝ }
+{
+    memory[p] = x;
+    memory[q] = y;
+}
+
+// The operation of the instruction n, whose way is 5: both words or none.
+pub fn store_two(
+    core: Core,
+    key: u16,
+    group: u16,
+    regs: &[u16; 16],
+    memory: &mut [u16],
+    pages: &[u16],
+    n: Instruction,
+) -> Ending
+    requires { ⌜ (length (now pages) ≡ 512) × (key ≡ keyOf (core .sw)) × (group ≡ groupOf (core .sw)) × (group < 16) × (wayOf (operationOf (n .form)) ≡ 5) ⌝ }
+    ensures { λ r. ⌜ Ended (joined core (now (regs .entry))) (now (memory .entry)) (now (pages .entry)) n (r .clear) (r .fault) (joined (r .core) (now (regs .entry))) (now (memory .exit)) ⌝ }
+{
+    let next = following(core.ic, n.form);
+    let cs = cs_of(core.sw);
+    if !in_memory(n.form / 256 % 16) {
+        return done(core, next, cs, 0);
+    }
+    let x = get(regs, accumulator_of(n));
+    let y = get(regs, accumulator_of(n) + 1);
+    let first = look_up(Access::Write, key, group, pages, memory.len(), n.address);
+    match first {
+        Place::At(p) => {
+            let a = wrapping_add_u16(n.address, 1);
+            let second = look_up(Access::Write, key, group, pages, memory.len(), a);
+            match second {
+                Place::At(q) => {
+                    put_two(memory, p, q, x, y);
+                    done(core, next, cs, 0)
+                }
+                Place::Refused(b) => refused(core, b),
+            }
+        }
+        Place::Refused(b) => refused(core, b),
+    }
 }

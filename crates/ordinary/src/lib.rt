@@ -178,8 +178,8 @@ pub fn store_words(sw: u16, memory: &mut [u16], pages: &[u16], span: Span, x: u1
     store_at(key, group, memory, pages, span, 2, c, z);
 }
 
-// What an operation does, by ranges of paragraphs; x, y and z are the words read. Bits and shifts have two ranges each: a function that is called
-// twice stays one of its own, and the step without them is small enough to be put inline as a whole.
+// What an operation does, by ranges of paragraphs; x, y and z are the words read. Bits, shifts, loads and stores have two ranges each: a function
+// that is called twice stays one of its own, and the step without them is small enough to be put inline as a whole.
 pub fn ordinary(
     regs: &[u16; 16],
     ic: u16,
@@ -198,8 +198,10 @@ pub fn ordinary(
         10..=17 => shift_operation(regs, ic, sw, pi, n),
         18..=23 => shift_operation(regs, ic, sw, pi, n),
         24..=37 => jump_operation(regs, ic, sw, pi, n, x),
-        38..=44 => load_operation(regs, ic, sw, pi, n, x, y, z),
-        45..=54 => store_operation(regs, ic, sw, pi, n, x),
+        38..=41 => load_operation(regs, ic, sw, pi, n, x, y, z),
+        42..=44 => load_operation(regs, ic, sw, pi, n, x, y, z),
+        45..=49 => store_operation(regs, ic, sw, pi, n, x),
+        50..=54 => store_operation(regs, ic, sw, pi, n, x),
         55..=59 => integer_operation(regs, ic, sw, pi, n, x, y),
         60..=62 => float_operation(regs, ic, sw, pi, n, x, y, z),
         63..=67 => integer_operation(regs, ic, sw, pi, n, x, y),

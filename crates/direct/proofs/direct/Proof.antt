@@ -1,7 +1,6 @@
 -- `direct::direct` meets its contract. Assumes nothing.
 use mathlib.Core.Path.{_≡_, refl, sym, ap, _∙_}
 use native.Mathlib.Omega.{arith}
-use Rattle.direct.proofs.WayLaws.{way-most}
 use borrow.Author.Needs.{needs}
 use Rattle.direct.proofs.direct.Statement.{statement}
 use Rattle.direct.proofs.direct.Tie as tie
@@ -11,6 +10,7 @@ use Rattle.direct.proofs.branch.branch.Reads as branch-reads
 use Rattle.direct.proofs.double.into_double.Reads as into-double-reads
 use Rattle.direct.proofs.single.into_single.Reads as into-single-reads
 use Rattle.direct.proofs.store.store_one.Reads as store-one-reads
+use Rattle.direct.proofs.store.store_two.Reads as store-two-reads
 
 into-single-requires : tie.Need-into-single-requires
 into-single-requires c κs = search needs
@@ -39,11 +39,20 @@ same-length-3 c = search needs
 returns-3 : tie.Need-returns-3
 returns-3 c = search needs
 
-branch-requires : tie.Need-branch-requires
-branch-requires c κs = omega (arith, c .before .before .before .before .before .pre .4, c .before .before .before .before .before .pre .5, c .before .before .if1 .left, c .before .if2 .left, c .if3 .left, way-most (c .before .before .before .before .before .args .n .form))
+store-two-requires : tie.Need-store-two-requires
+store-two-requires c κs = search needs
+
+same-length-4 : tie.Need-same-length-4
+same-length-4 c = search needs
 
 returns-4 : tie.Need-returns-4
-returns-4 c = c .branch .ensures (c .before .before .before .before .before .before .args .regs .now) (c .before .before .before .before .before .before .args .memory .now) (c .before .before .before .before .before .before .args .pages .now)
+returns-4 c = search needs
+
+branch-requires : tie.Need-branch-requires
+branch-requires c κs = omega (arith, c .before .before .before .before .before .before .pre .4, c .before .before .before .before .before .before .pre .5, c .before .before .before .before .before .before .pre .6, c .before .before .before .if1 .left, c .before .before .if2 .left, c .before .if3 .left, c .if4 .left)
+
+returns-5 : tie.Need-returns-5
+returns-5 c = c .branch .ensures (c .before .before .before .before .before .before .before .args .regs .now) (c .before .before .before .before .before .before .before .args .memory .now) (c .before .before .before .before .before .before .before .args .pages .now)
 
 pub direct-spec : {M : Type 1} → statement M
 direct-spec =
@@ -58,5 +67,8 @@ direct-spec =
     store-one-requires
     same-length-3
     returns-3
+    store-two-requires
+    same-length-4
+    returns-4
     branch-requires
-    returns-4)
+    returns-5)

@@ -16,7 +16,7 @@ use Rattle.direct.proofs.direct.Reads as direct-reads
 use Rattle.interrupt.proofs.fields.advance.Reads as advance-reads
 
 direct-requires : tie.Need-direct-requires
-direct-requires c κs = (c .before .before .before .before .pre .0, c .before .before .before .before .pre .1, c .before .before .before .before .pre .2, c .before .before .before .before .pre .3, c .before .before .before .before .pre .4, c .before .before .before .before .pre .5)
+direct-requires c κs = (c .before .before .before .before .pre .0, c .before .before .before .before .pre .1, c .before .before .before .before .pre .2, c .before .before .before .before .pre .3, c .before .before .before .before .pre .4, c .before .before .before .before .pre .5, c .before .before .before .before .pre .6)
 
 weighed-requires : tie.Need-weighed-requires
 weighed-requires c κs = search needs

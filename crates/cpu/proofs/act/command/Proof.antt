@@ -35,7 +35,7 @@ same-length-2 : tie.Need-same-length-2
 same-length-2 c = search needs
 
 returns : tie.Need-returns
-returns c = (λ memory. rw (c .unsettled .ensures .1, c .unsettled .ensures .0) (command-late (c .before .before .before .before .before .before .before .before .before .before .before .before .before .before .args .lag) _ _ _ _ (c .before .before .before .before .before .before .before .before .before .before .before .before .before .before .args .regs .now) memory (c .before .before .before .before .before .before .before .before .before .before .before .before .before .before .args .pages .now) (c .before .before .before .before .before .before .before .before .before .before .before .before .before .before .args .ports .now) _ _ _ (c .before .before .before .before .before .before .before .before .before .before .before .before .before .before .args .n) _ (c .before .before .before .before .before .before .before .before .before .before .before .sees-time .result) (c .before .before .before .before .before .before .before .before .before .before .before .sees-time .ensures) (c .before .before .before .before .before .before .before .before .before .before .behind .ensures) (c .before .before .before .before .before .before .before .before .before .tick-by .ensures (c .before .before .before .before .before .before .before .before .before .before .before .before .before .before .args .regs .now)) (c .before .before .before .before .before .govern .ensures memory) .0), unsettled-lasting _ _ (c .unsettled .ensures .2) (rw (c .unsettled .ensures .1, c .unsettled .ensures .0) (command-late (c .before .before .before .before .before .before .before .before .before .before .before .before .before .before .args .lag) _ _ _ _ (c .before .before .before .before .before .before .before .before .before .before .before .before .before .before .args .regs .now) [] (c .before .before .before .before .before .before .before .before .before .before .before .before .before .before .args .pages .now) (c .before .before .before .before .before .before .before .before .before .before .before .before .before .before .args .ports .now) _ _ _ (c .before .before .before .before .before .before .before .before .before .before .before .before .before .before .args .n) _ (c .before .before .before .before .before .before .before .before .before .before .before .sees-time .result) (c .before .before .before .before .before .before .before .before .before .before .before .sees-time .ensures) (c .before .before .before .before .before .before .before .before .before .before .behind .ensures) (c .before .before .before .before .before .before .before .before .before .tick-by .ensures (c .before .before .before .before .before .before .before .before .before .before .before .before .before .before .args .regs .now)) (c .before .before .before .before .before .govern .ensures []) .1)))
+returns c = (λ memory. rw (c .unsettled .ensures .1, c .unsettled .ensures .0) (command-late (c .before .before .before .before .before .before .before .before .before .before .before .before .before .before .args .lag) _ _ _ _ (c .before .before .before .before .before .before .before .before .before .before .before .before .before .before .args .regs .now) memory (c .before .before .before .before .before .before .before .before .before .before .before .before .before .before .args .pages .now) (c .before .before .before .before .before .before .before .before .before .before .before .before .before .before .args .ports .now) _ _ _ (c .before .before .before .before .before .before .before .before .before .before .before .before .before .before .args .n) (c .before .before .before .before .before .before .before .before .before .before .before .sees-time .result) (c .before .before .before .before .before .before .before .before .before .before .before .sees-time .ensures) (c .before .before .before .before .before .before .before .before .before .before .behind .ensures) (c .before .before .before .before .before .before .before .before .before .tick-by .ensures (c .before .before .before .before .before .before .before .before .before .before .before .before .before .before .args .regs .now)) (c .before .before .before .before .before .govern .ensures memory) .0), unsettled-lasting _ _ (c .unsettled .ensures .2) (rw (c .unsettled .ensures .1, c .unsettled .ensures .0) (command-late (c .before .before .before .before .before .before .before .before .before .before .before .before .before .before .args .lag) _ _ _ _ (c .before .before .before .before .before .before .before .before .before .before .before .before .before .before .args .regs .now) [] (c .before .before .before .before .before .before .before .before .before .before .before .before .before .before .args .pages .now) (c .before .before .before .before .before .before .before .before .before .before .before .before .before .before .args .ports .now) _ _ _ (c .before .before .before .before .before .before .before .before .before .before .before .before .before .before .args .n) (c .before .before .before .before .before .before .before .before .before .before .before .sees-time .result) (c .before .before .before .before .before .before .before .before .before .before .before .sees-time .ensures) (c .before .before .before .before .before .before .before .before .before .before .behind .ensures) (c .before .before .before .before .before .before .before .before .before .tick-by .ensures (c .before .before .before .before .before .before .before .before .before .before .before .before .before .before .args .regs .now)) (c .before .before .before .before .before .govern .ensures []) .1)))
 
 pub command-spec : {M : Type 1} → statement M
 command-spec =

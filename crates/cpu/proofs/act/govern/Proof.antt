@@ -6,11 +6,11 @@ use Rattle.cpu.proofs.act.govern.Statement.{statement}
 use Rattle.cpu.proofs.act.govern.Tie as tie
 use Rattle.cpu.proofs.act.govern.Reads as reads
 use Rattle.cpu.proofs.act.govern.Lts as lts
-use Rattle.command.proofs.supervise.Reads as supervise-reads
+use Rattle.command.proofs.transfer.Reads as transfer-reads
 use Rattle.cpu.proofs.act.refuse.Reads as refuse-reads
 
-supervise-requires : tie.Need-supervise-requires
-supervise-requires c κs = search needs
+transfer-requires : tie.Need-transfer-requires
+transfer-requires c κs = search needs
 
 enum-known-governed : tie.Need-enum-known-governed
 enum-known-governed c = search needs
@@ -28,7 +28,7 @@ same-length-2 : tie.Need-same-length-2
 same-length-2 c = search needs
 
 returns : tie.Need-returns
-returns c = λ memory. governed-done (c .before .before .before .before .before .before .before .before .before .before .before .before .before .args .core) memory (c .before .before .before .before .before .before .before .before .before .before .before .before .before .args .n) (c .before .before .before .before .before .before .before .before .before .before .before .before .before .args .regs .now) _ (c .before .before .before .before .before .before .before .before .before .before .before .before .before .args .pages .now) _ (c .before .before .before .before .before .before .before .before .before .before .before .before .before .args .ports .now) _ (c .before .before .before .before .before .before .before .supervise .result) _ (c .before .before .before .before .before .before .before .supervise .ensures .0) _ (c .before .governed .given .1)
+returns c = λ memory. governed-done (c .before .before .before .before .before .before .before .before .before .before .before .before .before .args .core) memory (c .before .before .before .before .before .before .before .before .before .before .before .before .before .args .n) (c .before .before .before .before .before .before .before .before .before .before .before .before .before .args .regs .now) _ (c .before .before .before .before .before .before .before .before .before .before .before .before .before .args .pages .now) _ (c .before .before .before .before .before .before .before .before .before .before .before .before .before .args .ports .now) _ (c .before .before .before .before .before .before .before .transfer .result) _ (c .before .before .before .before .before .before .before .transfer .ensures .0) _ (c .before .governed .given .1)
 
 same-length-3 : tie.Need-same-length-3
 same-length-3 c = search needs
@@ -37,13 +37,13 @@ same-length-4 : tie.Need-same-length-4
 same-length-4 c = search needs
 
 returns-2 : tie.Need-returns-2
-returns-2 c = λ memory. governed-refused (c .before .before .before .before .before .before .before .before .before .before .before .before .before .before .args .core) memory (c .before .before .before .before .before .before .before .before .before .before .before .before .before .before .args .n) (c .before .before .before .before .before .before .before .before .before .before .before .before .before .before .args .regs .now) _ (c .before .before .before .before .before .before .before .before .before .before .before .before .before .before .args .pages .now) _ (c .before .before .before .before .before .before .before .before .before .before .before .before .before .before .args .ports .now) _ (c .before .before .before .before .before .before .before .before .supervise .result) _ (c .before .before .before .before .before .before .before .before .supervise .ensures .0) _ _ (c .before .before .governed2 .given .1) (c .before .before .before .before .before .before .before .before .supervise .ensures .1, c .before .before .before .before .before .before .before .before .supervise .ensures .2, c .before .before .before .before .before .before .before .before .supervise .ensures .3) (c .refuse .ensures)
+returns-2 c = λ memory. governed-refused (c .before .before .before .before .before .before .before .before .before .before .before .before .before .before .args .core) memory (c .before .before .before .before .before .before .before .before .before .before .before .before .before .before .args .n) (c .before .before .before .before .before .before .before .before .before .before .before .before .before .before .args .regs .now) _ (c .before .before .before .before .before .before .before .before .before .before .before .before .before .before .args .pages .now) _ (c .before .before .before .before .before .before .before .before .before .before .before .before .before .before .args .ports .now) _ (c .before .before .before .before .before .before .before .before .transfer .result) _ (c .before .before .before .before .before .before .before .before .transfer .ensures .0) _ _ (c .before .before .governed2 .given .1) (c .before .before .before .before .before .before .before .before .transfer .ensures .1, c .before .before .before .before .before .before .before .before .transfer .ensures .2, c .before .before .before .before .before .before .before .before .transfer .ensures .3) (c .refuse .ensures)
 
 pub govern-spec : {M : Type 1} → statement M
 govern-spec =
     tie.close
     (tie.spec
-    supervise-requires
+    transfer-requires
     enum-known-governed
     enum-known-governed-2
     refuse-requires
