@@ -11,8 +11,7 @@ NEEDED = 'Rattle.access.proofs.NeedsLaws.'
 SPECS = {'Fields': 'Rattle.isa.specs.Fields', 'Addressing': 'Rattle.isa.specs.Addressing', 'Accesses': 'Rattle.isa.specs.Accesses',
          'Spans': 'Rattle.page.specs.Spans'}
 # contracts that give the result's bound after its value
-PROD = {fn: ' .0' for fn in ('field-a', 'field-b', 'registers-from', 'base-accumulator', 'all-from', 'popped-span', 'pushed-span', 'moved-span',
-                             'words-moved', 'words-of-integer', 'words-of-float', 'words-read', 'words-written')}
+PROD = {fn: ' .0' for fn in ('field-a', 'field-b', 'registers-from', 'base-accumulator', 'all-from', 'popped-span', 'pushed-span', 'moved-span')}
 
 
 # the definitions to unfold as 'File:name name;File:name', further imports, and the needs' answers
@@ -37,18 +36,6 @@ def table(definition, argument, keys, bounded):
               **{last: '(%s, search needs)' % default if bounded else default})
 
 
-# at most three words: one at a register, or those at the derived address; the operations on blocks are left to the others
-def few(definition, words, keys, register):
-    others = ['h%s' % key for key in keys.split()]
-    def part(span, fact, count):
-        return '(rw (%s) refl, rw (%s) (%s), λ %s. rw (%s) (%s))' % (span, span, count, ' '.join(others), fact, span)
-    memory = 'ne-eqb _ _ (@if1 .left), %s, ← @in-memory .ensures, @if2 ' % ', '.join(others)
-    return by('Accesses:%s atOperand' % definition, TESTS, NAT, SPECS['Spans'] + '.{wrapped}',
-              returns=register % part('@span-from .ensures', 'eq-eqb _ _ (@if1 .taken), ← @field-a .ensures .0, ← @get .ensures' + ('' if words == 'read' else ', ← e'), 'search needs'),
-              returns_2=part('@span-from2 .ensures', memory + '.taken, ← @words-%s .ensures .0' % words, '@words-%s .ensures .1' % words),
-              returns_3=part('@span-from3 .ensures', memory + '.left', 'search needs'))
-
-
 # where the words start that an operation reads or writes, and how many they are, by its need
 def start(done, register, call):
     law = '%s-%s (@args .regs .now) (@args .n) (@args .need) (@Start .pre) p (@if1 .%s)'
@@ -66,9 +53,7 @@ def count(done):
             'returns-3': '(λ regs p. rw (%s) refl, omega arith)' % (law % ('register', done, 'omega (arith, @if1 .left)'))}
 
 
-FLOATS = '60 61 68 69 74 75 79 80 94 95'
-OPERATION = '(@args .n .form % 256)'
-FEW = '(@%s .ensures .2 (ne-eqb _ _ (@match .rest .0 .0 .1)) (ne-eqb _ _ (@match .rest .0 .1)) (ne-eqb _ _ (@match .rest .1)), omega (arith, @%s .ensures .1))'
+NONE = '(@%s .ensures ∙ block-%s-none (@args .regs .now) (@args .n) (@Start .pre) (ne-eqb _ _ (@match .rest .0 .0 .1)) (ne-eqb _ _ (@match .rest .0 .1)) (ne-eqb _ _ (@match .rest .1)), rw (@%s .ensures) (omega arith))'
 LESS_ONE = 'let e : @less .result ≡ wrapped (@get .result + 65535) = @less .ensures in '
 
 A = {
@@ -99,14 +84,6 @@ A = {
     'addressing/accumulator_of': by('Addressing:accumulator',
         returns='(rw (← @based .ensures, @if1 .taken) (@base-accumulator .ensures .0), @base-accumulator .ensures .1)',
         returns_2='(rw (← @based .ensures, @if1 .left) (@field-a .ensures .0), @field-a .ensures .1)'),
-    'accesses/words_moved': table('Accesses:wordsMoved', 'operation', '3 4 5 6 35 38 39 41 42 43 49 52 53', True),
-    'accesses/words_of_integer': table('Accesses:wordsOfInteger', 'operation', '55 56 59 63 64 67 71 72 73 76 77 78 81 82 83 84 91 92 93', True),
-    'accesses/words_of_float': by('Accesses:wordsOfFloat', LISTS, OTHERWISE, arms='(@arm, search needs)',
-        returns_11='(@words-of-integer .ensures .0 ∙ sym (%s), @words-of-integer .ensures .1)' % rest('(@args .operation)', FLOATS)),
-    'accesses/words_read': by('Accesses:wordsRead', TESTS,
-        returns='(rw (le-leb _ _ (@if1 .taken)) (@words-moved .ensures .0), @words-moved .ensures .1)',
-        returns_2='(rw (lt-leb _ _ (@if1 .left)) (@words-of-float .ensures .0), @words-of-float .ensures .1)'),
-    'accesses/words_written': table('Accesses:wordsWritten', 'operation', '3 4 6 45 46 48 49 51 52 53 56 64', True),
     'accesses/all_from': by('Accesses:allFrom', OMEGA,
         returns='(rw (← @field-a .ensures .0) (@span-from .ensures), rw (@span-from .ensures) (omega (arith, @field-a .ensures .1)))'),
     'accesses/popped_span': by('Accesses:poppedSpan', OMEGA, sub_t7='omega (arith, @field-a .ensures .1)',
@@ -117,12 +94,10 @@ A = {
     'accesses/moved_span': by('Accesses:movedSpan', TESTS,
         returns='(rw (← @field-a .ensures .0, ← @get .ensures, eq-eqb _ _ (@if1 .taken), ← @get2 .ensures) (@span-from .ensures), rw (@span-from .ensures) (search needs))',
         returns_2='(rw (← @field-a .ensures .0, ← @get .ensures, ne-eqb _ _ (@if1 .left), ← @get3 .ensures) (@span-from2 .ensures), rw (@span-from2 .ensures) (search needs))'),
-    'accesses/few_reads': few('readsOf', 'read', '40 44 47', '%s'),
-    'accesses/few_writes': few('writesOf', 'written', '47 50 54', LESS_ONE + '%s'),
-    'accesses/reads': by('Accesses:readsOf', TESTS, OMEGA, NAT, returns='(@arm, @all-from .ensures .1)', returns_2='(@arm, @popped-span .ensures .1)',
-        returns_3='(@arm, @moved-span .ensures .1)', returns_4=FEW % (('few-reads',) * 2)),
-    'accesses/writes': by('Accesses:writesOf', TESTS, OMEGA, NAT, returns='(@arm, @moved-span .ensures .1)', returns_2='(@arm, @all-from .ensures .1)',
-        returns_3='(@arm, @pushed-span .ensures .1)', returns_4=FEW % (('few-writes',) * 2)),
+    'accesses/reads': by('Accesses:readsOf', TESTS, OMEGA, NAT, NEEDED + '{block-reads-none}', returns='(@arm, @all-from .ensures .1)', returns_2='(@arm, @popped-span .ensures .1)',
+        returns_3='(@arm, @moved-span .ensures .1)', returns_4=NONE % ('span-from', 'reads', 'span-from')),
+    'accesses/writes': by('Accesses:writesOf', TESTS, OMEGA, NAT, NEEDED + '{block-writes-none}', returns='(@arm, @moved-span .ensures .1)', returns_2='(@arm, @all-from .ensures .1)',
+        returns_3='(@arm, @pushed-span .ensures .1)', returns_4=NONE % ('span-from', 'writes', 'span-from')),
     'needs/table': {'use': [OWN + '{exceptions, wayOf, needOf, allNeeds}', SPECS['Accesses'] + '.{wordsMoved, wordsOfInteger, wordsOfFloat, wordsRead, wordsWritten}'],
         'unf': {'*': 'allNeeds needOf exceptions wayOf wordsRead wordsMoved wordsOfFloat wordsOfInteger wordsWritten'}, 'returns': 'refl'},
     'needs/need_with': {'use': [NEEDED + '{need-listed}'], 'returns': 'need-listed (@args .table .now) (@args .form) (@Start .pre)'},

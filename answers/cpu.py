@@ -15,7 +15,6 @@ TIME = 'Rattle.cpu.proofs.TimeLaws.'
 SYSTEM = 'Rattle.cpu.proofs.SystemLaws.'
 ENTRIES = 'Rattle.machine.specs.Entries.'
 ENTRY_LAWS = 'Rattle.interrupt.proofs.EntryLaws.{entered-by}'
-FAULTS = 'Rattle.page.specs.Spans.{wrapped}'
 
 
 # a function and the definitions, each `place names ..`, that its returns unfold
@@ -27,13 +26,11 @@ def by(*unfolded, use=(), **answers):
     return made
 
 
-CORE = '(@args .core)'
 REGS = '(@args .regs .now)'
 PLAIN = '(joined (@args .core) (@args .regs .now))'
 JOINED = '(later (@args .lag) %s)' % PLAIN
 LISTS = '(@args .memory .now) (@args .pages .now) (@args .ports .now)'
 VERDICT = '_ _ _ (@reads .ensures .0) (@writes .ensures .0) (@verify .ensures)'
-WORDS = '(wordsOf (keyOf (@args .core .sw)) (groupOf (@args .core .sw)) (@args .pages .now) (length (@args .memory .now)) %s (@args .memory .now))'
 PREPARED = 'prepared-later (@args .lag) %s (view %s (@args .memory .now) (@args .pages .now)), ← @prepare .ensures' % (PLAIN, PLAIN)
 LATER = 'Rattle.interrupt.specs.Later.{later}'
 CHECKED = '← @key-of .ensures .0, ← @group-of .ensures .0, ← @check-span .ensures, @%s .given .1'
@@ -81,7 +78,8 @@ A = {
     'act/deny': by(use=[TIME + '{unsettled-lasting, fault-unseen, fault-time}', STATE + '{joined}', 'mathlib.Core.List.{[]}'],
         returns='(@unsettled .ensures .1, λ n regs. rw (@unsettled .ensures .0) (fault-unseen n (joined (@args .core) regs) _ _ _ (@fault .ensures regs)), '
             'unsettled-lasting _ _ (@unsettled .ensures .2) (λ h. rw (@unsettled .ensures .0) (fault-time _ _ [] _ _ (@fault .ensures []))))'),
-    'act/carry_words': by(STAGES + ' operated', ISA + ' mil1750 contextOf', use=[LATER, ACT + '{carried-clear, carried-fault, failed, became-worked, block-user, settled-by}', STATE + '{joined}'],
+    'act/carry_words': by(STAGES + ' operated', ISA + ' mil1750 contextOf', use=[LATER, ACT + '{block-need, carried-clear, carried-fault, failed, became-worked, block-user, settled-by}', STATE + '{joined}'],
+        reads_requires='block-need (@args .n .form) (@Start .pre .1)', writes_requires='block-need (@args .n .form) (@Start .pre .1)',
         block_requires='(@Start .pre .0, @Start .pre .1, @reads .ensures .0, @reads .ensures .1)',
         returns='(λ lag ports. rw (← carried-clear (later lag %s) (@args .memory .now) (@args .pages .now) ports (@args .n) %s (@enum-told .given .1), block-user _ (@Start .pre .1)) '
             '(became-worked lag %s (@args .memory .now) (@args .pages .now) ports (@args .n) _ _ _ _ (@block .ensures) (@weighed .ensures .3 _ _)), %s)' % (PLAIN, VERDICT, PLAIN, settled('block .ensures .state-is')),
@@ -94,9 +92,9 @@ A = {
         returns_2='rw (← %s .0, ← %s .1) (@carry-words .ensures)' % (ATTEMPT % ('left', 'left'), ATTEMPT % ('left', 'left'))),
     'act/carry_direct': by(STAGES + ' operated', ISA + ' mil1750 contextOf', use=[LATER, ACT + '{carried-clear, carried-fault, failed, became-worked, settled-by}', STATE + '{joined}'],
         direct_requires='(@Start .pre .0, @Start .pre .1, @Start .pre .2, @Start .pre .3, @Start .pre .4, @Start .pre .5, @Start .pre .6)',
-        returns='(λ lag ports. rw (← carried-clear (later lag %s) (@args .memory .now) (@args .pages .now) ports (@args .n) _ _ _ refl refl refl (@direct .ensures .when-clear (@if1 .taken) .0), @direct .ensures .by-user) '
-            '(became-worked lag %s (@args .memory .now) (@args .pages .now) ports (@args .n) _ _ _ _ (@direct .ensures .when-clear (@if1 .taken) .1) (@weighed .ensures .3 _ _)), %s)'
-            % (PLAIN, PLAIN, settled('direct .ensures .when-clear (@if1 .taken) .1 .state-is')),
+        returns='(λ lag ports. rw (← carried-clear (later lag %s) (@args .memory .now) (@args .pages .now) ports (@args .n) _ _ _ refl refl refl (@direct .ensures .when-clear (@if1 .taken) .admitted), @direct .ensures .by-user) '
+            '(became-worked lag %s (@args .memory .now) (@args .pages .now) ports (@args .n) _ _ _ _ (@direct .ensures .when-clear (@if1 .taken) .worked) (@weighed .ensures .3 _ _)), %s)'
+            % (PLAIN, PLAIN, settled('direct .ensures .when-clear (@if1 .taken) .worked .state-is')),
         returns_2='let k = @direct .ensures .when-refused (@if1 .left) in '
             '(λ lag ports. rw (@deny .ensures .0, ← carried-fault (later lag %s) (@args .memory .now) (@args .pages .now) ports (@args .n) _ _ _ refl refl refl _ (k .0), ← @advance .ensures) (%s), %s)'
             % (PLAIN, failed('ports', 'lag', 'k .2', 'ap (λ r. later lag (joined (@deny .result .core) r)) (k .1) ∙ '), LASTS)),

@@ -1,13 +1,13 @@
 -- The parts of what an operation needs, and the words that an operation not on blocks reads and writes by them. Assumes nothing.
 use Prim.Native.Nat.{ℕ, _+_, _/_, _%_, _<_}
 use mathlib.Core.Path.{_≡_, refl, sym, ap, _∙_}
-use mathlib.Core.Bool.{Bool, true, false, cond, _&&_}
-use mathlib.Core.List.{List, [], _∷_}
+use mathlib.Core.Bool.{Bool, true, false, not, cond, _&&_, _||_, false≢true}
+use mathlib.Core.List.{List}
 use native.Mathlib.Omega.{arith}
 use lib.Dec.{eqb}
 use lib.ListN.{getD}
-use borrow.Author.Tests.{eqb-true, eqb-false}
-use Rattle.choice.proofs.TestLaws.{both, passes}
+use borrow.Author.Tests.{eq-eqb, eqb-true, eqb-false}
+use Rattle.choice.proofs.TestLaws.{both, either, passes}
 use Rattle.choice.proofs.TableLaws.{listed}
 use Rattle.page.specs.declared.Span.{Span}
 use Rattle.page.specs.Spans.{wrapped}
@@ -63,6 +63,38 @@ others : (k : ℕ) → needOf k / 64 % 2 ≡ 0
     → (eqb k 40 ≡ false) × (eqb k 44 ≡ false) × (eqb k 47 ≡ false) × (eqb k 50 ≡ false) × (eqb k 54 ≡ false)
 unfolding needOf exceptions wayOf wordsRead wordsMoved wordsOfFloat wordsOfInteger wordsWritten
 others k h = (apart k 40 h refl, apart k 44 h refl, apart k 47 h refl, apart k 50 h refl, apart k 54 h refl)
+
+-- those on blocks need no word at their derived address
+blocks-told : (k : ℕ) → k < 256 → not (eqb (needOf k / 64 % 2) 1) || eqb (needOf k) 64 ≡ true
+unfolding needOf exceptions wayOf wordsRead wordsMoved wordsOfFloat wordsOfInteger wordsWritten
+blocks-told k h = passes (λ (j : ℕ). not (eqb (needOf j / 64 % 2) 1) || eqb (needOf j) 64) 256 refl k h
+
+block-need : (k : ℕ) → k < 256 → needOf k / 64 % 2 ≡ 1 → needOf k ≡ 64
+block-need k h e = either _ _ (λ u. absurd (false≢true (ap not (sym (eq-eqb _ _ e)) ∙ u))) (λ u. eqb-true _ _ u) (blocks-told k h)
+
+no-words : (a : ℕ) (b : Bool) (k : ℕ) → k ≡ 0 → spanFrom a (cond b k 0) ≡ spanFrom a 0
+no-words a true k e = ap (spanFrom a) e
+no-words a false k e = refl
+
+-- the operation of n is on blocks, and none of those that read, or that write
+module _ (regs : List ℕ) (n : Instruction) (h : needOf (operationOf (n .form)) / 64 % 2 ≡ 1) where
+  pub block-reads-none : eqb (operationOf (n .form)) 40 ≡ false → eqb (operationOf (n .form)) 44 ≡ false → eqb (operationOf (n .form)) 47 ≡ false
+      → spanFrom (n .address) 0 ≡ readsOf regs n
+  unfolding readsOf atOperand
+  block-reads-none i j l =
+      let e = block-need (operationOf (n .form)) (omega arith) h in
+      let p = parts (operationOf (n .form)) (omega arith) in
+      rw (untold (eqb (operationOf (n .form)) 37) (needOf (operationOf (n .form)) / 16 % 2) (p .2) (λ z. omega (arith, z, e)), i, j, l)
+      (sym (no-words (n .address) (inMemory (modeOf (n .form))) _ (sym (p .0) ∙ ap (λ (m : ℕ). m % 4) e)))
+
+  pub block-writes-none : eqb (operationOf (n .form)) 47 ≡ false → eqb (operationOf (n .form)) 50 ≡ false → eqb (operationOf (n .form)) 54 ≡ false
+      → spanFrom (n .address) 0 ≡ writesOf regs n
+  unfolding writesOf atOperand
+  block-writes-none i j l =
+      let e = block-need (operationOf (n .form)) (omega arith) h in
+      let p = parts (operationOf (n .form)) (omega arith) in
+      rw (untold (eqb (operationOf (n .form)) 36) (needOf (operationOf (n .form)) / 32 % 2) (p .3) (λ z. omega (arith, z, e)), i, j, l)
+      (sym (no-words (n .address) (inMemory (modeOf (n .form))) _ (sym (p .1) ∙ ap (λ (m : ℕ). m / 4 % 4) e)))
 
 -- a span upwards, by its start and its count
 spanned : (s : Span) (a k start count : ℕ) → s ≡ spanFrom a k → start ≡ s .start → count ≡ s .count → spanFrom start count ≡ s

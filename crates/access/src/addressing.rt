@@ -1,7 +1,7 @@
 // The derived address of each addressing mode before indirection, and the derived operand (4.3, table V).
 ghost use mathlib.Core.Path.{_≡_};
 ghost use Prim.Native.Nat.{_<_};
-ghost use Rattle.isa.specs.Addressing.{derivedFrom, inMemory, isImmediate, isBased, isRegister, operandWord, operand, doubleOperand, baseAccumulator, accumulator};
+ghost use Rattle.isa.specs.Addressing.{derivedFrom, inMemory, isImmediate, isBased, operandWord, operand, doubleOperand, baseAccumulator, accumulator};
 use crate::fields::base_of;
 use crate::fields::displacement_of;
 use crate::fields::field_a;

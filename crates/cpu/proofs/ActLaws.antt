@@ -194,6 +194,9 @@ block-told : (k : ℕ) → k < 256 → needOf k / 64 % 2 ≡ cond (isBlock k) 1 
 unfolding needOf exceptions wayOf wordsRead wordsMoved wordsOfFloat wordsOfInteger wordsWritten isBlock
 block-told k h = eqb-true _ _ (tests.passes (λ (j : ℕ). eqb (needOf j / 64 % 2) (cond (isBlock j) 1 0)) 256 refl k h)
 
+pub block-need : (form : ℕ) → isBlock (operationOf form) ≡ true → needOf (operationOf form) / 64 % 2 ≡ 1
+block-need form h = block-told (operationOf form) (omega arith) ∙ ap (λ (b : Bool). cond b 1 0) h
+
 module _ (form need : ℕ) (e : need ≡ needOf (operationOf form)) where
   weight : need / 64 % 2 ≡ cond (isBlock (operationOf form)) 1 0
   weight = ap (λ (m : ℕ). m / 64 % 2) e ∙ block-told (operationOf form) (omega arith)

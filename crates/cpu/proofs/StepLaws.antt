@@ -10,7 +10,7 @@ use borrow.Author.Tests.{lt-ltb, le-ltb}
 use Rattle.machine.specs.declared.State.{State}
 use Rattle.machine.specs.declared.Core.{Core}
 use Rattle.machine.specs.declared.Answer.{Answer}
-use Rattle.machine.specs.declared.Answer.the-variants.{Spent, BadMemory, BadPages, BadPorts, BadBudget, BadCounter}
+use Rattle.machine.specs.declared.Answer.the-variants.{BadMemory, BadPages, BadPorts}
 use Rattle.machine.specs.State.{withHold, joined}
 use Rattle.machine.specs.Machine.{Machine, machine, Became, Isa}
 use Rattle.machine.specs.Instructions.{enter, view, instructed}

@@ -27,11 +27,10 @@ use Rattle.machine.specs.Step.{affected, stored}
 use Rattle.isa.specs.Addressing.{inMemory}
 use Rattle.isa.specs.Accesses.{readsOf, writesOf}
 use Rattle.isa.specs.Fields.{withRegister, withRegisters}
-use Rattle.isa.specs.Effects.{Context, following, fixedOverflow, three, effect, result}
+use Rattle.isa.specs.Effects.{following, fixedOverflow, three, effect, result}
 use Rattle.isa.specs.Integers.{singleOutcome, doubleOutcome}
 use Rattle.isa.specs.Execute.{executed}
 use Rattle.isa.specs.Mil1750.{classOf, contextOf}
-use Rattle.block.specs.Operation.{Worked}
 use Rattle.ordinary.specs.declared.Gathered.{Gathered}
 use Rattle.ordinary.specs.Gathers.{FirstThree, gathered}
 use Rattle.ordinary.proofs.OrdinaryLaws.{all-gathered, denied-gathered}
@@ -96,7 +95,7 @@ module _ (s : State) (m g : List ℕ) (n : Instruction) (user : classOf (operati
   unfolding both
   ended-clear e c fault t w p q d h i j = record {
     by-user = user;
-    when-clear = λ _. (rw (p, q) refl, rw d (record { state-is = i; memory-is = j }));
+    when-clear = λ _. record { admitted = rw (p, q) refl; worked = rw d (record { state-is = i; memory-is = j }) };
     when-refused = λ r. absurd (false≢true (sym r ∙ h));
   }
 

@@ -6,7 +6,7 @@ use mathlib.Core.List.{List}
 use lib.ListN.{length}
 use Rattle.page.specs.declared.Access.the-variants.{Read, Write}
 use Rattle.page.specs.declared.Verdict.{Verdict}
-use Rattle.page.specs.declared.Verdict.the-variants.{Clear, Fault}
+use Rattle.page.specs.declared.Verdict.the-variants.{Fault}
 use Rattle.page.specs.Spans.{checked, wordsOf}
 use Rattle.decode.specs.Forms.{operationOf}
 use Rattle.machine.specs.declared.State.{State}
@@ -15,9 +15,8 @@ use Rattle.machine.specs.declared.Class.the-variants.{User}
 use Rattle.machine.specs.State.{keyOf, groupOf}
 use Rattle.machine.specs.Instructions.{both}
 use Rattle.isa.specs.Accesses.{readsOf, writesOf}
-use Rattle.isa.specs.Execute.{executed}
-use Rattle.isa.specs.Mil1750.{classOf, contextOf}
-use Rattle.block.specs.Operation.{Worked}
+use Rattle.isa.specs.Mil1750.{classOf}
+use Rattle.block.specs.Operation.{Finished}
 
 -- the verdict on all accesses of the instruction n, from the state s, in the memory m through the page registers g
 abbrev pub verdict : State → List ℕ → List ℕ → Instruction → Verdict
@@ -33,5 +32,5 @@ wordsRead s m g n = wordsOf (keyOf (s .sw)) (groupOf (s .sw)) g (length m) (read
 -- refusal, and registers and memory are as they were
 pub record Ended (s : State) (m g : List ℕ) (n : Instruction) (clear : Bool) (fault : ℕ) (t : State) (w : List ℕ) : Type 0 where
   pub by-user : classOf (operationOf (n .form)) ≡ User
-  pub when-clear : clear ≡ true → (verdict s m g n ≡ Clear) × Worked s m g n (executed (contextOf s) n (wordsRead s m g n)) t w
+  pub when-clear : clear ≡ true → Finished s m g n t w
   pub when-refused : clear ≡ false → (verdict s m g n ≡ Fault fault) × (t .regs ≡ s .regs) × (w ≡ m)

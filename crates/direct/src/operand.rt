@@ -1,6 +1,5 @@
 // The words of an operand that may be in memory.
 ghost use mathlib.Core.Path.{_≡_};
-ghost use mathlib.Core.Bool.{cond};
 ghost use Prim.Native.Nat.{_<_, _≤_};
 ghost use lib.ListN.{length};
 ghost use Rattle.page.specs.Spans.{checked, wordsOf};

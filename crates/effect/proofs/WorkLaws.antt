@@ -1,6 +1,5 @@
 -- How many of three words are taken, by the tests of the code. Assumes nothing.
 use Prim.Native.Nat.{ℕ, zero, suc}
-use mathlib.Core.List.{List, [], _∷_}
 use mathlib.Core.Path.{_≡_, refl}
 use lib.ListN.{take}
 use Rattle.isa.specs.Effects.{three}

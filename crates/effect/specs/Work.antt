@@ -1,6 +1,6 @@
 -- What an operation on at most three words does, as the scalars that the code keeps. Assumes nothing.
 use Prim.Native.Nat.{ℕ}
-use mathlib.Core.List.{List, [], _∷_}
+use mathlib.Core.List.{List}
 use lib.ListN.{take}
 use Rattle.machine.specs.Machine.{Effect}
 use Rattle.isa.specs.Fields.{withRegisters}

@@ -1,6 +1,6 @@
 -- The effects of an outcome are those of the struct by which the code gives it. Assumes nothing.
 use Prim.Native.Nat.{ℕ}
-use mathlib.Core.List.{List, [], _∷_}
+use mathlib.Core.List.{[], _∷_}
 use mathlib.Core.Path.{_≡_, refl}
 use Rattle.word.specs.Pair.{highWord, lowWord}
 use Rattle.fixed.specs.declared.Single.{Single}

@@ -1,6 +1,6 @@
 -- Double precision arithmetic, as the code chooses among it. Assumes nothing.
 use Prim.Native.Nat.{ℕ}
-use mathlib.Core.List.{List, [], _∷_}
+use mathlib.Core.List.{[], _∷_}
 use Rattle.choice.specs.Select.{select}
 use Rattle.fixed.specs.Fixed.{Outcome, sum, difference}
 use Rattle.divide.specs.Divide.{product, quotient}

@@ -1,15 +1,15 @@
 -- The state some ticks later is reached tick by tick. Assumes nothing.
 use Prim.Native.Nat.{ℕ, _+_, _-_, _/_, _%_, _≤_}
-use mathlib.Core.Path.{_≡_, refl, sym, ap, _∙_}
+use mathlib.Core.Path.{_≡_, refl, sym, _∙_}
 use mathlib.Core.Bool.{Bool, true, false, cond, _&&_}
 use native.Mathlib.Omega.{arith}
-use lib.Bits.{bitOr, or-zero-r}
+use lib.Bits.{or-zero-r}
 use lib.Dec.{eqb}
 use borrow.Author.Tests.{eqb-true, eqb-false, ne-eqb}
 use Rattle.page.specs.Spans.{wrapped}
 use Rattle.machine.specs.declared.State.{State}
 use Rattle.machine.specs.declared.Core.{Core}
-use Rattle.machine.specs.State.{withPi, withTa, withTb, withCount, joined}
+use Rattle.machine.specs.State.{withPi, withTa, withTb, withCount}
 use Rattle.machine.specs.Step.{counted, risesB, risen, passing, ticked}
 use Rattle.interrupt.specs.Later.{Calm, later}
 

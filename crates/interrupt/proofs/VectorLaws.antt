@@ -11,7 +11,6 @@ use Rattle.page.specs.Pages.{physical, through, lookup}
 use Rattle.page.specs.Spans.{wrapped, gotAt, wordOf}
 use Rattle.page.proofs.NearLaws.{lookup-before}
 use Rattle.page.proofs.ReachLaws.{located-inside}
-use Rattle.machine.specs.declared.Vector.{Vector}
 use Rattle.machine.specs.Entries.{faultOf, gotZero, vectorOf}
 
 -- words of address state 0, with key 0

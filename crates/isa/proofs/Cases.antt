@@ -6,7 +6,6 @@ use mathlib.Core.List.{List, [], _∷_}
 use lib.Dec.{T, eqb}
 use lib.ListN.{replicate, getD, set}
 use Rattle.choice.specs.Table.{tableOf}
-use Rattle.machine.specs.declared.State.{State}
 use Rattle.machine.specs.Machine.{Machine, machine}
 use Rattle.machine.specs.Step.{step}
 use Rattle.machine.proofs.Opened.{machinery}

@@ -1,9 +1,9 @@
 -- Known instructions, each run as one step of the machine against the definitions: rows of one table that the checker computes. Assumes nothing.
-use Prim.Native.Nat.{ℕ, _+_, _*_, _/_, _%_}
+use Prim.Native.Nat.{ℕ, _+_, _%_}
 use mathlib.Core.Bool.{Bool, true, false, _&&_}
 use mathlib.Core.List.{List, [], _∷_, _++_}
 use lib.Dec.{T, eqb}
-use lib.ListN.{replicate, getD, set}
+use lib.ListN.{replicate, set}
 use Rattle.choice.specs.Table.{tableOf}
 use Rattle.machine.specs.declared.State.{State}
 use Rattle.machine.specs.Machine.{Machine, machine}

@@ -1,6 +1,6 @@
 -- The privileged operations: XIO's commands (5.1), each by its number, and LST (5.35).
 -- s is the state, g the page registers, o the ports, n the instruction. Assumes nothing.
-use Prim.Native.Nat.{ℕ, _+_, _/_, _%_}
+use Prim.Native.Nat.{ℕ, _+_, _%_}
 use mathlib.Core.Bool.{true, false, cond}
 use mathlib.Core.List.{List, [], _∷_}
 use lib.Dec.{eqb}
@@ -11,7 +11,7 @@ use Rattle.machine.specs.declared.State.{State}
 use Rattle.machine.specs.declared.Instruction.{Instruction}
 use Rattle.word.specs.Bits.{resetBit}
 use Rattle.machine.specs.State.{bit, withRegs, withIc, withSw, withMk, withPi, withFt, withEnabled, withHold, withTa, withTb, withTaOn, withTbOn}
-use Rattle.machine.specs.Machine.{System, Supervised, done, refused, nextOf}
+use Rattle.machine.specs.Machine.{Supervised, done, refused, nextOf}
 use Rattle.isa.specs.Fields.{fieldA, register, withRegister}
 
 -- the state at the next instruction

@@ -1,7 +1,7 @@
 -- Floating point operations (5.60 to 5.95): what each does, by its paragraph. F.P. has a mantissa of 24 bits and two words, E.F.P. one of 40 bits and three.
 -- v is what the operation sees, n the instruction, x, y and z the words read. Assumes nothing.
 use Prim.Native.Nat.{ℕ, _+_, _/_}
-use mathlib.Core.List.{List, [], _∷_}
+use mathlib.Core.List.{[], _∷_}
 use lib.IntN.{ℤ}
 use Rattle.choice.specs.Select.{select}
 use Rattle.whole.specs.Whole.{signed}

@@ -1,7 +1,7 @@
 -- Integer arithmetic, logic and comparison (5.55 to 5.93 without the floats): what each does, by its paragraph.
 -- v is what the operation sees, n the instruction, x and y the words read. Assumes nothing.
 use Prim.Native.Nat.{ℕ, _+_}
-use mathlib.Core.List.{List, [], _∷_}
+use mathlib.Core.List.{[], _∷_}
 use Rattle.choice.specs.Select.{select}
 use Rattle.word.specs.Pair.{highWord, lowWord}
 use Rattle.word.specs.Bytes.{exchange}

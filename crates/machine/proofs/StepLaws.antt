@@ -9,8 +9,7 @@ use mathlib.Core.Option.{none}
 use native.Mathlib.Omega.{arith}
 use lib.Dec.{ltb}
 use lib.ListN.{length}
-use Rattle.page.specs.declared.Access.the-variants.{Write}
-use Rattle.page.specs.Pages.{May, MaySee}
+use Rattle.page.specs.Pages.{MaySee}
 use Rattle.page.specs.Spans.{written}
 use Rattle.machine.specs.declared.State.{State}
 use Rattle.machine.specs.State.{keyOf, groupOf, withCs, withRegs, withIc, withSw, withPi, withFt, withHold, withTa, withTb, withCount}

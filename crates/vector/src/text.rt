@@ -1,5 +1,4 @@
 // The text of a case, but for the report: its first and last lines, the lines of what it changed, and messages.
-ghost use mathlib.Core.Path.{_≡_};
 ghost use Prim.Native.Nat.{_≤_};
 ghost use lib.ListN.{length};
 ghost use Rattle.report.specs.Report.{Text};

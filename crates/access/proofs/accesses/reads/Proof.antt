@@ -3,6 +3,7 @@ use Rattle.isa.specs.Accesses.{readsOf}
 use borrow.Author.Tests.{eq-eqb, ne-eqb, lt-ltb, le-ltb, le-leb, lt-leb}
 use native.Mathlib.Omega.{arith}
 use Prim.Native.Nat.{_+_, _-_, _*_, _/_, _%_}
+use Rattle.access.proofs.NeedsLaws.{block-reads-none}
 use mathlib.Core.Path.{_≡_, refl, sym, ap, _∙_}
 use borrow.Author.Needs.{needs}
 use Rattle.access.proofs.accesses.reads.Statement.{statement}
@@ -10,9 +11,9 @@ use Rattle.access.proofs.accesses.reads.Tie as tie
 use Rattle.access.proofs.accesses.reads.Reads as reads
 use Rattle.access.proofs.accesses.reads.Lts as lts
 use Rattle.access.proofs.accesses.all_from.Reads as all-from-reads
-use Rattle.access.proofs.accesses.few_reads.Reads as few-reads-reads
 use Rattle.access.proofs.accesses.moved_span.Reads as moved-span-reads
 use Rattle.access.proofs.accesses.popped_span.Reads as popped-span-reads
+use Rattle.access.proofs.accesses.span_from.Reads as span-from-reads
 use Rattle.access.proofs.fields.field_b.Reads as field-b-reads
 
 all-from-requires : tie.Need-all-from-requires
@@ -27,8 +28,8 @@ field-b-requires c κs = search needs
 moved-span-requires : tie.Need-moved-span-requires
 moved-span-requires c κs = search needs
 
-few-reads-requires : tie.Need-few-reads-requires
-few-reads-requires c κs = search needs
+span-from-requires : tie.Need-span-from-requires
+span-from-requires c κs = search needs
 
 returns : tie.Need-returns
 unfolding readsOf
@@ -44,7 +45,7 @@ returns-3 c = (rw (c .before .before .match .keys3, ← c .before .field-b .ensu
 
 returns-4 : tie.Need-returns-4
 unfolding readsOf
-returns-4 c = (c .few-reads .ensures .2 (ne-eqb _ _ (c .before .match .rest .0 .0 .1)) (ne-eqb _ _ (c .before .match .rest .0 .1)) (ne-eqb _ _ (c .before .match .rest .1)), omega (arith, c .few-reads .ensures .1))
+returns-4 c = (c .span-from .ensures ∙ block-reads-none (c .before .before .before .args .regs .now) (c .before .before .before .args .n) (c .before .before .before .pre) (ne-eqb _ _ (c .before .match .rest .0 .0 .1)) (ne-eqb _ _ (c .before .match .rest .0 .1)) (ne-eqb _ _ (c .before .match .rest .1)), rw (c .span-from .ensures) (omega arith))
 
 pub reads-spec : {M : Type 1} → statement M
 reads-spec =
@@ -54,7 +55,7 @@ reads-spec =
     popped-span-requires
     field-b-requires
     moved-span-requires
-    few-reads-requires
+    span-from-requires
     returns
     returns-2
     returns-3

@@ -3,6 +3,7 @@ use Rattle.isa.specs.Accesses.{writesOf}
 use borrow.Author.Tests.{eq-eqb, ne-eqb, lt-ltb, le-ltb, le-leb, lt-leb}
 use native.Mathlib.Omega.{arith}
 use Prim.Native.Nat.{_+_, _-_, _*_, _/_, _%_}
+use Rattle.access.proofs.NeedsLaws.{block-writes-none}
 use mathlib.Core.Path.{_≡_, refl, sym, ap, _∙_}
 use borrow.Author.Needs.{needs}
 use Rattle.access.proofs.accesses.writes.Statement.{statement}
@@ -10,9 +11,9 @@ use Rattle.access.proofs.accesses.writes.Tie as tie
 use Rattle.access.proofs.accesses.writes.Reads as reads
 use Rattle.access.proofs.accesses.writes.Lts as lts
 use Rattle.access.proofs.accesses.all_from.Reads as all-from-reads
-use Rattle.access.proofs.accesses.few_writes.Reads as few-writes-reads
 use Rattle.access.proofs.accesses.moved_span.Reads as moved-span-reads
 use Rattle.access.proofs.accesses.pushed_span.Reads as pushed-span-reads
+use Rattle.access.proofs.accesses.span_from.Reads as span-from-reads
 use Rattle.access.proofs.fields.field_a.Reads as field-a-reads
 
 field-a-requires : tie.Need-field-a-requires
@@ -27,8 +28,8 @@ all-from-requires c κs = search needs
 pushed-span-requires : tie.Need-pushed-span-requires
 pushed-span-requires c κs = search needs
 
-few-writes-requires : tie.Need-few-writes-requires
-few-writes-requires c κs = search needs
+span-from-requires : tie.Need-span-from-requires
+span-from-requires c κs = search needs
 
 returns : tie.Need-returns
 unfolding writesOf
@@ -44,7 +45,7 @@ returns-3 c = (rw (c .before .match .keys3) (c .pushed-span .ensures .0), c .pus
 
 returns-4 : tie.Need-returns-4
 unfolding writesOf
-returns-4 c = (c .few-writes .ensures .2 (ne-eqb _ _ (c .before .match .rest .0 .0 .1)) (ne-eqb _ _ (c .before .match .rest .0 .1)) (ne-eqb _ _ (c .before .match .rest .1)), omega (arith, c .few-writes .ensures .1))
+returns-4 c = (c .span-from .ensures ∙ block-writes-none (c .before .before .before .args .regs .now) (c .before .before .before .args .n) (c .before .before .before .pre) (ne-eqb _ _ (c .before .match .rest .0 .0 .1)) (ne-eqb _ _ (c .before .match .rest .0 .1)) (ne-eqb _ _ (c .before .match .rest .1)), rw (c .span-from .ensures) (omega arith))
 
 pub writes-spec : {M : Type 1} → statement M
 writes-spec =
@@ -54,7 +55,7 @@ writes-spec =
     moved-span-requires
     all-from-requires
     pushed-span-requires
-    few-writes-requires
+    span-from-requires
     returns
     returns-2
     returns-3

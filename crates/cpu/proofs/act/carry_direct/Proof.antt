@@ -26,7 +26,7 @@ same-length c = search needs
 
 returns : tie.Need-returns
 unfolding operated mil1750 contextOf
-returns c = (λ lag ports. rw (← carried-clear (later lag (joined (c .before .before .before .before .before .before .before .before .before .args .core) (c .before .before .before .before .before .before .before .before .before .args .regs .now))) (c .before .before .before .before .before .before .before .before .before .args .memory .now) (c .before .before .before .before .before .before .before .before .before .args .pages .now) ports (c .before .before .before .before .before .before .before .before .before .args .n) _ _ _ refl refl refl (c .before .before .before .before .direct .ensures .when-clear (c .before .if1 .taken) .0), c .before .before .before .before .direct .ensures .by-user) (became-worked lag (joined (c .before .before .before .before .before .before .before .before .before .args .core) (c .before .before .before .before .before .before .before .before .before .args .regs .now)) (c .before .before .before .before .before .before .before .before .before .args .memory .now) (c .before .before .before .before .before .before .before .before .before .args .pages .now) ports (c .before .before .before .before .before .before .before .before .before .args .n) _ _ _ _ (c .before .before .before .before .direct .ensures .when-clear (c .before .if1 .taken) .1) (c .weighed .ensures .3 _ _)), settled-by (c .before .before .before .before .before .before .before .before .before .args .core) _ _ (c .before .before .before .before .before .before .before .before .before .args .regs .now) _ _ (c .weighed .ensures .1) (c .weighed .ensures .2) (c .weighed .ensures .0) (c .before .before .before .before .direct .ensures .when-clear (c .before .if1 .taken) .1 .state-is))
+returns c = (λ lag ports. rw (← carried-clear (later lag (joined (c .before .before .before .before .before .before .before .before .before .args .core) (c .before .before .before .before .before .before .before .before .before .args .regs .now))) (c .before .before .before .before .before .before .before .before .before .args .memory .now) (c .before .before .before .before .before .before .before .before .before .args .pages .now) ports (c .before .before .before .before .before .before .before .before .before .args .n) _ _ _ refl refl refl (c .before .before .before .before .direct .ensures .when-clear (c .before .if1 .taken) .admitted), c .before .before .before .before .direct .ensures .by-user) (became-worked lag (joined (c .before .before .before .before .before .before .before .before .before .args .core) (c .before .before .before .before .before .before .before .before .before .args .regs .now)) (c .before .before .before .before .before .before .before .before .before .args .memory .now) (c .before .before .before .before .before .before .before .before .before .args .pages .now) ports (c .before .before .before .before .before .before .before .before .before .args .n) _ _ _ _ (c .before .before .before .before .direct .ensures .when-clear (c .before .if1 .taken) .worked) (c .weighed .ensures .3 _ _)), settled-by (c .before .before .before .before .before .before .before .before .before .args .core) _ _ (c .before .before .before .before .before .before .before .before .before .args .regs .now) _ _ (c .weighed .ensures .1) (c .weighed .ensures .2) (c .weighed .ensures .0) (c .before .before .before .before .direct .ensures .when-clear (c .before .if1 .taken) .worked .state-is))
 
 advance-requires : tie.Need-advance-requires
 advance-requires c κs = search needs

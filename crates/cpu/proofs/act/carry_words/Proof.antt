@@ -1,7 +1,7 @@
 -- `cpu::act::carry_words` meets its contract. Assumes nothing.
 use mathlib.Core.Path.{_≡_, refl, sym, ap, _∙_}
 use Rattle.interrupt.specs.Later.{later}
-use Rattle.cpu.proofs.ActLaws.{carried-clear, carried-fault, failed, became-worked, block-user, settled-by}
+use Rattle.cpu.proofs.ActLaws.{block-need, carried-clear, carried-fault, failed, became-worked, block-user, settled-by}
 use Rattle.machine.specs.State.{joined}
 use Rattle.machine.specs.Instructions.{operated}
 use Rattle.isa.specs.Mil1750.{mil1750, contextOf}
@@ -19,10 +19,10 @@ use Rattle.cpu.proofs.act.weighed.Reads as weighed-reads
 use Rattle.interrupt.proofs.fields.advance.Reads as advance-reads
 
 reads-requires : tie.Need-reads-requires
-reads-requires c κs = search needs
+reads-requires c κs = block-need (c .before .before .before .args .n .form) (c .before .before .before .pre .1)
 
 writes-requires : tie.Need-writes-requires
-writes-requires c κs = search needs
+writes-requires c κs = block-need (c .before .before .before .before .before .args .n .form) (c .before .before .before .before .before .pre .1)
 
 verify-requires : tie.Need-verify-requires
 verify-requires c κs = search needs
