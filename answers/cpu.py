@@ -14,7 +14,7 @@ LAWS = 'Rattle.cpu.proofs.StepLaws.'
 TIME = 'Rattle.cpu.proofs.TimeLaws.'
 SYSTEM = 'Rattle.cpu.proofs.SystemLaws.'
 ENTRIES = 'Rattle.machine.specs.Entries.'
-ENTRY_LAWS = 'Rattle.interrupt.proofs.EntryLaws.{entered-by}'
+ENTRY_LAWS = 'Rattle.entry.proofs.EntryLaws.{entered-by}'
 
 
 # a function and the definitions, each `place names ..`, that its returns unfold
@@ -32,7 +32,7 @@ JOINED = '(later (@args .lag) %s)' % PLAIN
 LISTS = '(@args .memory .now) (@args .pages .now) (@args .ports .now)'
 VERDICT = '_ _ _ (@reads .ensures .0) (@writes .ensures .0) (@verify .ensures)'
 PREPARED = 'prepared-later (@args .lag) %s (view %s (@args .memory .now) (@args .pages .now)), ← @prepare .ensures' % (PLAIN, PLAIN)
-LATER = 'Rattle.interrupt.specs.Later.{later}'
+LATER = 'Rattle.clock.specs.Later.{later}'
 CHECKED = '← @key-of .ensures .0, ← @group-of .ensures .0, ← @check-span .ensures, @%s .given .1'
 FORM = '(@args .n .form) (@args .need)'
 OFF_BLOCK = '(off-block %s (@Start .pre .6) (@if3 .left))' % FORM
@@ -180,7 +180,7 @@ ROW = ('mil1750 (@args .from) (l .lag) (l .inv .3) (later (@args .from) (joined 
        '(l .memory) (l .pages) (l .ports) (l .inv .12) (@instruct .result .lagging) (@instruct .result .core) _ _ _ _ (@instruct .ensures .0)' % LISTS)
 A['run/obey'] = {
     'use': [EQUATIONS, OMEGA, TESTS, LENGTH, 'Prim.Native.Nat.{ℕ, _+_, _≤_, _<_, _-_}', STATE + '{keyOf, groupOf, joined}', ISA + '{mil1750}', 'mathlib.Core.Bool.{false}', 'Rattle.machine.specs.Entries.{chosen}',
-            'Rattle.interrupt.specs.Later.{Calm, later}', 'Rattle.interrupt.proofs.LaterLaws.{calm-fewer}',
+            'Rattle.clock.specs.Later.{Calm, later}', 'Rattle.clock.proofs.LaterLaws.{calm-fewer}',
             'Rattle.cpu.specs.Settled.{SameTime}', TIME + '{same-here, same-onward, calm-same}',
             LAWS + '{going, row-made, row-on, sw-released, hold-released, time-released, later-released, chosen-released, chosen-later, chosen-settled}'],
     'Inv-loop': '(length memory ≡ length memory₀) × (length pages ≡ length pages₀) × (length ports ≡ length ports₀) × (lag₀ ≤ lag) × (lag < end) × (end ≤ most) × '
@@ -210,7 +210,7 @@ STILL = 'calm-same _ _ _ (@turn .ensures .time-kept %s) (l .inv .5)' % LAGS
 FEWER = 'omega (arith, @turn .ensures .onward, @turn .ensures .within, l .inv .4)'
 A['run/go_on'] = {
     'use': [EQUATIONS, OMEGA, TESTS, LENGTH, 'Prim.Native.Nat.{_+_, _≤_, _<_, _-_}', STATE + '{joined}', MACHINE + '{machine}', RUNS + '{steps}', ISA + '{mil1750}',
-            'Rattle.interrupt.specs.Later.{Calm, later}', 'Rattle.interrupt.proofs.LaterLaws.{calm-fewer}', TIME + '{calm-same}', LAWS + '{stretch-start, stretch-cut, stretch-end, stretch-on}'],
+            'Rattle.clock.specs.Later.{Calm, later}', 'Rattle.clock.proofs.LaterLaws.{calm-fewer}', TIME + '{calm-same}', LAWS + '{stretch-start, stretch-cut, stretch-end, stretch-on}'],
     'Inv-loop': '(length memory ≡ length memory₀) × (length pages ≡ length pages₀) × (length ports ≡ length ports₀) × (lag < most) × (most ≤ n) × Calm (most - 1) t × '
         '(steps mil1750 n (machine (joined t₀ regs₀) memory₀ pages₀ ports₀) ≡ steps mil1750 (n - lag) (machine (later lag (joined t regs)) memory pages ports))',
     'μ-loop': 'most - lag', 'default': 'omega arith', 'sub-quiet': 'omega (arith, @Start .pre .4)', 'add-most': 'omega (arith, @quiet .ensures .1)',

@@ -60,7 +60,7 @@ A = {
     'entry/link_each': by(ENTRIES + ' linked linkStored refusalOf oldWords', use=[EQUATIONS],
         returns='λ v n l. (rw (n, l, %s) refl, λ s m w a. rw (n, l, %s, ← @group-of .ensures .0, m, w, a) (@write-span .ensures))' % (CHECKED % 'enum-told', CHECKED % 'enum-told'),
         returns_2='λ v n l. (rw (n, l, %s) refl, λ s m w a. rw (n, l, %s) refl)' % (CHECKED % 'verdict', CHECKED % 'verdict')),
-    'entry/link': by(ENTRIES + ' refusalOf', use=[EQUATIONS, OMEGA, STATE + '{groupOf}', 'Rattle.interrupt.proofs.EntryLaws.{two-before, inside-first, inside-second, inside-third, linked-clear, linked-stored}'],
+    'entry/link': by(ENTRIES + ' refusalOf', use=[EQUATIONS, OMEGA, STATE + '{groupOf}', 'Rattle.entry.proofs.EntryLaws.{two-before, inside-first, inside-second, inside-third, linked-clear, linked-stored}'],
         sub_memory='omega (arith, two-before %s)' % FOUND, sub_memory_2='omega (arith, two-before %s)' % FOUND,
         mul_memory='omega (arith, inside-first %s)' % FOUND, mul_memory_2='omega (arith, inside-second %s)' % FOUND, mul_memory_3='omega (arith, inside-third %s)' % FOUND,
         slice_write_memory='search (needs, inside-first %s)' % FOUND, slice_write_memory_2='search (needs, inside-second %s)' % FOUND,
@@ -78,7 +78,7 @@ A = {
     'time/tick': by(STEP + ' ticked counted risesB', STATE + ' withPi withTa withTb withCount', use=[EQUATIONS],
         returns='λ regs. rw (← @wrapping-add-u32 .ensures, ← @rises-b .ensures, ← @pass .ensures 7 refl, ← @pass2 .ensures 9 refl, ← @rise .ensures, ← @rise2 .ensures) refl'),
 }
-LATER = 'Rattle.interrupt.specs.Later.'
+LATER = 'Rattle.clock.specs.Later.'
 LIMITS = 'borrow.Author.Tests.{lt-ltb, le-ltb}'
 RAISED = 'omega (arith, @Start .pre (@if1 .taken))'
 A['later/raised'] = by(use=[EQUATIONS, OMEGA], add_result=RAISED, cast_result=RAISED, returns='rw (@if1 .taken)', returns_2='rw (@if1 .left)')

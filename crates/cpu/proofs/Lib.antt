@@ -1,6 +1,3 @@
--- The laws of the time, of one instruction and of runs, and property 3 of this machine.
-pub mod TimeLaws
-pub mod ActLaws
-pub mod SystemLaws
+-- The laws of steps and runs, and property 3 of this machine.
 pub mod StepLaws
 pub mod Isolated

@@ -18,10 +18,10 @@ use Rattle.machine.specs.Entries.{takeable, chosen}
 use Rattle.machine.specs.Step.{released, perform, begun, action, ticked, tick, step}
 use Rattle.machine.specs.Runs.{numberOf, asked, admission, steps}
 use Rattle.machine.proofs.MachineLaws.{became-machine}
-use Rattle.interrupt.specs.Later.{Calm, later}
-use Rattle.interrupt.proofs.LaterLaws.{ticked-later, later-none}
-use Rattle.cpu.specs.Settled.{SameTime, Settled, after}
-use Rattle.cpu.proofs.TimeLaws.{same-by}
+use Rattle.clock.specs.Later.{Calm, later}
+use Rattle.clock.proofs.LaterLaws.{ticked-later, later-none}
+use Rattle.moved.specs.Settled.{SameTime, Settled, after}
+use Rattle.moved.proofs.TimeLaws.{same-by}
 
 -- ---- what a step does, from the interrupt n that is chosen
 

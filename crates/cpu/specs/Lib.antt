@@ -1,3 +1,2 @@
--- What an instruction may leave as it was, and what a row of steps comes to.
-pub mod Settled
+-- What a row of steps comes to.
 pub mod Rows

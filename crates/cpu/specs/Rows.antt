@@ -9,9 +9,9 @@ use Rattle.machine.specs.Machine.{Machine, machine}
 use Rattle.machine.specs.Step.{ticked}
 use Rattle.machine.specs.Runs.{steps}
 use Rattle.isa.specs.Mil1750.{mil1750}
-use Rattle.cpu.specs.declared.act.Moved.{Moved}
+use Rattle.moved.specs.declared.Moved.{Moved}
 use Rattle.cpu.specs.declared.run.Row.{Row}
-use Rattle.cpu.specs.Settled.{SameTime, after}
+use Rattle.moved.specs.Settled.{SameTime, after}
 
 -- the row that ends with an instruction, after which n steps of the stretch are made
 abbrev pub rowOf : Moved → ℕ → Row

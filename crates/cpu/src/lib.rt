@@ -1,3 +1,2 @@
-// The processor: one instruction, one step, a run.
-pub mod act;
+// The processor: steps and runs.
 pub mod run;

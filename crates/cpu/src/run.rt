@@ -13,24 +13,24 @@ ghost use Rattle.machine.specs.Step.{released, perform};
 ghost use Rattle.machine.specs.Runs.{numberOf, wholePages, admission, answerOf, steps, left};
 ghost use Rattle.isa.specs.Mil1750.{mil1750};
 ghost use Rattle.access.specs.Needs.{allNeeds};
-ghost use Rattle.interrupt.specs.Later.{Calm, later};
-ghost use Rattle.cpu.specs.Settled.{SameTime};
+ghost use Rattle.clock.specs.Later.{Calm, later};
+ghost use Rattle.moved.specs.Settled.{SameTime};
 ghost use Rattle.cpu.specs.Rows.{rowOf, Made};
-use crate::act::Moved;
-use crate::act::instruct;
-use interrupt::entry::arrive;
-use interrupt::entry::link;
-use interrupt::fields::group_of;
-use interrupt::fields::key_of;
-use interrupt::later::quiet;
-use interrupt::later::tick_by;
+use clock::later::quiet;
+use clock::later::tick_by;
+use clock::time::release;
+use clock::time::tick;
+use entry::arrive;
+use entry::link;
+use instruct::instruct;
 use interrupt::pending::choose;
-use interrupt::time::release;
-use interrupt::time::tick;
 use interrupt::vector::vector;
 use machine::Answer;
 use machine::Core;
 use machine::State;
+use moved::Moved;
+use status::group_of;
+use status::key_of;
 
 // The entry of interrupt n up to its tick, with any registers and ports, however far the core lags.
 fn interrupted(core: Core, memory: &mut [u16], pages: &[u16], n: u16) -> Core

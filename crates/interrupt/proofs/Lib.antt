@@ -1,4 +1,2 @@
--- The laws of several ticks at once, of the stores of an entry, and of the words it reads.
-pub mod EntryLaws
-pub mod LaterLaws
+-- The laws of the words that an entry reads.
 pub mod VectorLaws

@@ -1,10 +1,5 @@
-// What a step does that no instruction decides: interrupts and their entry, faults, the counter and the timers (Scope, "One step").
-// The state goes without its registers, as a Core: what is said here holds with any registers beside it.
-pub mod entry;
-pub mod fields;
-pub mod later;
+// Which interrupt is entered, and the words that its entry reads (Scope, "One step", 1, and "Entry of n").
 pub mod pending;
-pub mod time;
 pub mod vector;
 
 use machine::Vector;

@@ -25,9 +25,6 @@ use execute_words::jumps::jump_operation;
 use execute_words::loads::load_operation;
 use execute_words::shifts::shift_operation;
 use execute_words::stores::store_operation;
-use interrupt::fields::group_of;
-use interrupt::fields::key_of;
-use interrupt::fields::with_cs;
 use machine::Core;
 use machine::Instruction;
 use page::Access;
@@ -35,6 +32,9 @@ use page::Got;
 use page::Span;
 use page::read::read_word;
 use page::write::write_word;
+use status::group_of;
+use status::key_of;
+use status::with_cs;
 use std::num::wrapping_add_u16;
 
 // The words read, 0 past their number, where all accesses are open; else the FT bit of the first refusal.

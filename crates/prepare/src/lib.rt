@@ -14,7 +14,6 @@ ghost use Rattle.decode.specs.Decode.{forms};
 ghost use Rattle.machine.specs.State.{keyOf, groupOf, joined};
 ghost use Rattle.machine.specs.Instructions.{view, permitted, readyAt, redirected, derived, granted, decoded, prepared};
 ghost use Rattle.isa.specs.Mil1750.{classOf, mil1750};
-use interrupt::fields::advance;
 use machine::Class;
 use machine::Core;
 use machine::Instruction;
@@ -24,6 +23,7 @@ use page::Got;
 use page::Place;
 use page::lookup::look_up;
 use page::read::read_word;
+use status::advance;
 
 // Who may run an operation: BEX (5.30) calls the executive, XIO (5.1) and LST (5.35) are privileged.
 pub fn class_of(operation: u16) -> Class

@@ -8,9 +8,9 @@ use Rattle.machine.specs.State.{joined}
 use Rattle.machine.specs.Machine.{machine}
 use Rattle.machine.specs.Runs.{steps}
 use Rattle.isa.specs.Mil1750.{mil1750}
-use Rattle.interrupt.specs.Later.{Calm, later}
-use Rattle.interrupt.proofs.LaterLaws.{calm-fewer}
-use Rattle.cpu.proofs.TimeLaws.{calm-same}
+use Rattle.clock.specs.Later.{Calm, later}
+use Rattle.clock.proofs.LaterLaws.{calm-fewer}
+use Rattle.moved.proofs.TimeLaws.{calm-same}
 use Rattle.cpu.proofs.StepLaws.{stretch-start, stretch-cut, stretch-end, stretch-on}
 use borrow.Author.Needs.{needs}
 use Rattle.cpu.proofs.run.go_on.Statement.{statement}
@@ -18,9 +18,9 @@ use Rattle.cpu.proofs.run.go_on.Tie as tie
 use Rattle.cpu.proofs.run.go_on.Reads as reads
 use Rattle.cpu.proofs.run.go_on.Lts as lts
 use Rattle.cpu.proofs.run.turn.Reads as turn-reads
-use Rattle.interrupt.proofs.later.quiet.Reads as quiet-reads
-use Rattle.interrupt.proofs.later.tick_by.Reads as tick-by-reads
-use Rattle.interrupt.proofs.time.tick.Reads as tick-reads
+use Rattle.clock.proofs.later.quiet.Reads as quiet-reads
+use Rattle.clock.proofs.later.tick_by.Reads as tick-by-reads
+use Rattle.clock.proofs.time.tick.Reads as tick-reads
 
 abbrev Inv-loop : tie.InvT-loop
 Inv-loop regs₀ memory₀ pages₀ ports₀ table needs n most t₀ lag₀ regs memory pages ports t lag = (length memory ≡ length memory₀) × (length pages ≡ length pages₀) × (length ports ≡ length ports₀) × (lag < most) × (most ≤ n) × Calm (most - 1) t × (steps mil1750 n (machine (joined t₀ regs₀) memory₀ pages₀ ports₀) ≡ steps mil1750 (n - lag) (machine (later lag (joined t regs)) memory pages ports))

@@ -1,17 +1,17 @@
 -- `cpu::run::interrupted` meets its contract. Assumes nothing.
 use mathlib.Core.Path.{_≡_, refl, sym, ap, _∙_}
-use Rattle.interrupt.proofs.EntryLaws.{entered-by}
+use Rattle.entry.proofs.EntryLaws.{entered-by}
 use Rattle.machine.specs.State.{joined}
-use Rattle.cpu.proofs.TimeLaws.{enter-unseen}
+use Rattle.moved.proofs.TimeLaws.{enter-unseen}
 use mathlib.Core.List.{[]}
 use borrow.Author.Needs.{needs}
 use Rattle.cpu.proofs.run.interrupted.Statement.{statement}
 use Rattle.cpu.proofs.run.interrupted.Tie as tie
 use Rattle.cpu.proofs.run.interrupted.Reads as reads
 use Rattle.cpu.proofs.run.interrupted.Lts as lts
-use Rattle.interrupt.proofs.entry.arrive.Reads as arrive-reads
-use Rattle.interrupt.proofs.entry.link.Reads as link-reads
-use Rattle.interrupt.proofs.time.release.Reads as release-reads
+use Rattle.entry.proofs.arrive.Reads as arrive-reads
+use Rattle.entry.proofs.link.Reads as link-reads
+use Rattle.clock.proofs.time.release.Reads as release-reads
 use Rattle.interrupt.proofs.vector.vector.Reads as vector-reads
 
 vector-requires : tie.Need-vector-requires

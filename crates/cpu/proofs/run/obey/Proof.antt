@@ -8,22 +8,22 @@ use Rattle.machine.specs.State.{keyOf, groupOf, joined}
 use Rattle.isa.specs.Mil1750.{mil1750}
 use mathlib.Core.Bool.{false}
 use Rattle.machine.specs.Entries.{chosen}
-use Rattle.interrupt.specs.Later.{Calm, later}
-use Rattle.interrupt.proofs.LaterLaws.{calm-fewer}
-use Rattle.cpu.specs.Settled.{SameTime}
-use Rattle.cpu.proofs.TimeLaws.{same-here, same-onward, calm-same}
+use Rattle.clock.specs.Later.{Calm, later}
+use Rattle.clock.proofs.LaterLaws.{calm-fewer}
+use Rattle.moved.specs.Settled.{SameTime}
+use Rattle.moved.proofs.TimeLaws.{same-here, same-onward, calm-same}
 use Rattle.cpu.proofs.StepLaws.{going, row-made, row-on, sw-released, hold-released, time-released, later-released, chosen-released, chosen-later, chosen-settled}
 use borrow.Author.Needs.{needs}
 use Rattle.cpu.proofs.run.obey.Statement.{statement}
 use Rattle.cpu.proofs.run.obey.Tie as tie
 use Rattle.cpu.proofs.run.obey.Reads as reads
 use Rattle.cpu.proofs.run.obey.Lts as lts
-use Rattle.cpu.proofs.act.instruct.Reads as instruct-reads
+use Rattle.instruct.proofs.instruct.Reads as instruct-reads
 use Rattle.cpu.proofs.run.end_of.Reads as end-of-reads
 use Rattle.cpu.proofs.run.ended.Reads as ended-reads
-use Rattle.interrupt.proofs.fields.group_of.Reads as group-of-reads
-use Rattle.interrupt.proofs.fields.key_of.Reads as key-of-reads
-use Rattle.interrupt.proofs.time.release.Reads as release-reads
+use Rattle.status.proofs.group_of.Reads as group-of-reads
+use Rattle.status.proofs.key_of.Reads as key-of-reads
+use Rattle.clock.proofs.time.release.Reads as release-reads
 
 abbrev Inv-loop : tie.InvT-loop
 Inv-loop from most regs₀ memory₀ pages₀ ports₀ table needs key group end t₀ lag₀ regs memory pages ports t lag = (length memory ≡ length memory₀) × (length pages ≡ length pages₀) × (length ports ≡ length ports₀) × (lag₀ ≤ lag) × (lag < end) × (end ≤ most) × (key ≡ keyOf (t .sw)) × (group ≡ groupOf (t .sw)) × (t .hold ≡ false) × Calm (most - 1) t × (lag + 1 < end → 16 ≤ chosen (joined t regs)) × SameTime t₀ t × ((k : ℕ) → going mil1750 (k + (lag - lag₀)) (later lag₀ (joined t₀ regs₀)) memory₀ pages₀ ports₀ ≡ going mil1750 k (later lag (joined t regs)) memory pages ports)

@@ -1,7 +1,7 @@
 -- `cpu::run::turn` meets its contract. Assumes nothing.
 use mathlib.Core.Path.{_≡_, refl, sym, ap, _∙_}
 use native.Mathlib.Omega.{arith}
-use Rattle.interrupt.specs.Later.{later}
+use Rattle.clock.specs.Later.{later}
 use Rattle.cpu.proofs.StepLaws.{entry-made}
 use Rattle.machine.specs.State.{joined}
 use Rattle.machine.specs.Machine.{machine}

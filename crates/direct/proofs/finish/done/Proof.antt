@@ -7,7 +7,7 @@ use Rattle.direct.proofs.finish.done.Statement.{statement}
 use Rattle.direct.proofs.finish.done.Tie as tie
 use Rattle.direct.proofs.finish.done.Reads as reads
 use Rattle.direct.proofs.finish.done.Lts as lts
-use Rattle.interrupt.proofs.fields.with_cs.Reads as with-cs-reads
+use Rattle.status.proofs.with_cs.Reads as with-cs-reads
 
 with-cs-requires : tie.Need-with-cs-requires
 with-cs-requires c κs = search needs

@@ -1,0 +1,2 @@
+-- The laws of several ticks at once.
+pub mod LaterLaws

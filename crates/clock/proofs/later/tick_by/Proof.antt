@@ -1,0 +1,27 @@
+-- `clock::later::tick_by` meets its contract. Assumes nothing.
+use mathlib.Core.Path.{_≡_, refl, sym, ap, _∙_}
+use native.Mathlib.Omega.{arith}
+use borrow.Author.Needs.{needs}
+use Rattle.clock.proofs.later.tick_by.Statement.{statement}
+use Rattle.clock.proofs.later.tick_by.Tie as tie
+use Rattle.clock.proofs.later.tick_by.Reads as reads
+use Rattle.clock.proofs.later.tick_by.Lts as lts
+use Rattle.clock.proofs.later.raised.Reads as raised-reads
+
+add-count : tie.Need-add-count
+add-count c = omega (arith, c .before .pre .count-inside)
+
+sub-tens : tie.Need-sub-tens
+sub-tens c = omega arith
+
+raised-requires : tie.Need-raised-requires
+raised-requires c κs = c .before .before .pre .a-inside
+
+raised-requires-2 : tie.Need-raised-requires-2
+raised-requires-2 c κs = λ e. omega (arith, c .before .before .before .pre .b-inside e)
+
+returns : tie.Need-returns
+returns c = λ regs. rw (← c .before .raised .ensures, ← c .raised2 .ensures) refl
+
+pub tick-by-spec : {M : Type 1} → statement M
+tick-by-spec = tie.close (tie.spec add-count sub-tens raised-requires raised-requires-2 returns)

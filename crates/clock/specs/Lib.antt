@@ -1,0 +1,2 @@
+-- The definition of a state some ticks later.
+pub mod Later

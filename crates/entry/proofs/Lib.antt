@@ -1,0 +1,2 @@
+-- The laws of the stores of an entry.
+pub mod EntryLaws

@@ -1,0 +1,108 @@
+// The entry of an interrupt, and of the executive by BEX, once its words are read (Scope, "Entry of n"). Callers have 512 page registers,
+// and an interrupt's number of four bits.
+ghost use mathlib.Core.Path.{_≡_};
+ghost use mathlib.Core.List.{List};
+ghost use Prim.Native.Nat.{ℕ, _<_};
+ghost use lib.ListN.{length};
+ghost use Rattle.machine.specs.declared.State.{State};
+ghost use Rattle.machine.specs.State.{joined};
+ghost use lib.Bits.{bitOr};
+ghost use Rattle.machine.specs.Entries.{linked, linkStored, refusalOf, machineError, arrived};
+use machine::Core;
+use machine::Vector;
+use page::Access;
+use page::Place;
+use page::Span;
+use page::Verdict;
+use page::lookup::check_span;
+use page::lookup::look_up;
+use page::write::write_span;
+use status::group_of;
+use std::num::wrapping_add_u16;
+use word::bits::reset_bit;
+
+// PI bit 1 where there is a fault.
+fn machine_error(b: u16) -> u16
+    ensures { λ r. ⌜ r ≡ machineError b ⌝ }
+{
+    if b == 0 {
+        return 0;
+    }
+    0x4000
+}
+
+// Old MK, SW and IC are stored at the linkage pointer a by the new SW, all three or none, for any vector and state with these parts; the FT bit
+// of the first refusal, or 0. Each word is looked up.
+fn link_each(mk: u16, sw: u16, ic: u16, memory: &mut [u16], pages: &[u16], next: u16, a: u16) -> u16
+    requires { ⌜ length (now pages) ≡ 512 ⌝ }
+    ensures { λ r. ⌜ ((v : Vector) → v .sw ≡ next → v .link ≡ a → (r ≡ refusalOf (linked (now (memory .entry)) (now (pages .entry)) v))
+        × ((s : State) → s .mk ≡ mk → s .sw ≡ sw → s .ic ≡ ic
+        → now (memory .exit) ≡ linkStored s (now (memory .entry)) (now (pages .entry)) v (linked (now (memory .entry)) (now (pages .entry)) v))) ⌝ }
+{
+    let group = group_of(next);
+    let span = Span {
+        start: a,
+        count: 3,
+        stride: 1,
+        hole: 16,
+    };
+    let verdict = check_span(Access::Write, 0, group, pages, memory.len(), span);
+    match verdict {
+        Verdict::Clear => {
+            let mut old: [u16; 16] = [0; 16];
+            old[0] = mk;
+            old[1] = sw;
+            old[2] = ic;
+            write_span(0, group, memory, pages, &old, span);
+            0
+        }
+        Verdict::Fault(b) => b,
+    }
+}
+
+// The same. Where the three words lie in one page and the last is found, the others are before it.
+pub fn link(mk: u16, sw: u16, ic: u16, memory: &mut [u16], pages: &[u16], next: u16, a: u16) -> u16
+    requires { ⌜ length (now pages) ≡ 512 ⌝ }
+    ensures { λ r. ⌜ ((v : Vector) → v .sw ≡ next → v .link ≡ a → (r ≡ refusalOf (linked (now (memory .entry)) (now (pages .entry)) v))
+        × ((s : State) → s .mk ≡ mk → s .sw ≡ sw → s .ic ≡ ic
+        → now (memory .exit) ≡ linkStored s (now (memory .entry)) (now (pages .entry)) v (linked (now (memory .entry)) (now (pages .entry)) v))) ⌝ }
+{
+    let end = wrapping_add_u16(a, 2);
+    if 2 <= end % 4096 {
+        let last = look_up(Access::Write, 0, group_of(next), pages, memory.len(), end);
+        match last {
+            Place::At(p) => {
+                memory[p - 2] = mk;
+                memory[p - 1] = sw;
+                memory[p] = ic;
+                return 0;
+            }
+            Place::Refused(_) => {}
+        }
+    }
+    link_each(mk, sw, ic, memory, pages, next, a)
+}
+
+// The core after the entry of interrupt n by the vector v, whose stores came to this refusal, with any registers.
+pub fn arrive(core: Core, n: u16, v: Vector, refusal: u16) -> Core
+    requires { ⌜ n < 16 ⌝ }
+    ensures { λ r. ⌜ ((regs : List ℕ) → joined r regs ≡ arrived (joined core regs) n v (bitOr (v .fault) refusal)) ⌝ }
+{
+    let bits = v.fault | refusal;
+    let rest = reset_bit(core.pi, n);
+    let error = machine_error(bits);
+    Core {
+        ic: v.ic,
+        sw: v.sw,
+        mk: v.mk,
+        pi: rest | error,
+        ft: core.ft | bits,
+        enabled: false,
+        hold: core.hold,
+        ta: core.ta,
+        tb: core.tb,
+        taon: core.taon,
+        tbon: core.tbon,
+        count: core.count,
+    }
+}

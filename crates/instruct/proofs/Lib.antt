@@ -1,0 +1,2 @@
+-- The laws of users' operations.
+pub mod UserLaws

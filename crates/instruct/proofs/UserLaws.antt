@@ -1,0 +1,212 @@
+-- A user's operation: what it leaves, the words that it reads and writes, and what became of the machine. Assumes nothing.
+use Prim.Native.Nat.{ℕ, _+_, _/_, _%_, _≤_, _<_}
+use mathlib.Core.Path.{_≡_, refl, sym, ap, _∙_}
+use mathlib.Core.Bool.{Bool, true, false, cond, _&&_, false≢true}
+use mathlib.Core.List.{List, [], _∷_}
+use native.Mathlib.Omega.{arith}
+use lib.Dec.{eqb, leb}
+use lib.ListN.{getD}
+use borrow.Author.Tests.{leb-true, eqb-true}
+use Rattle.choice.specs.Select.{select}
+use Rattle.choice.proofs.TestLaws as tests
+use Rattle.page.specs.declared.Got.{Got}
+use Rattle.page.specs.declared.Got.the-variants.{Word, Missed}
+use Rattle.page.specs.declared.Span.{Span}
+use Rattle.page.specs.Spans.{wrapped}
+use Rattle.decode.specs.Forms.{lengthOf, modeOf, operationOf, privilegedOperations}
+use Rattle.machine.specs.declared.State.{State}
+use Rattle.machine.specs.declared.Core.{Core}
+use Rattle.machine.specs.declared.Instruction.{Instruction}
+use Rattle.machine.specs.declared.Class.the-variants.{User}
+use Rattle.machine.specs.State.{keyOf, groupOf, withPi, withSw, withIc, withRegs, advanced, joined}
+use Rattle.machine.specs.Machine.{Became, Effect, spanFrom}
+use Rattle.machine.specs.Instructions.{affect, View, permitted, redirected, derived, extended, granted, decoded, fetched, prepared, both}
+use Rattle.machine.specs.Step.{affected, stored, perform}
+use Rattle.isa.specs.Fields.{fieldA, register}
+use Rattle.isa.specs.Addressing.{inMemory}
+use Rattle.isa.specs.Accesses.{wordsMoved, wordsOfInteger, wordsOfFloat, wordsRead, wordsWritten, atOperand, readsOf, writesOf}
+use Rattle.isa.specs.Effects.{Context}
+use Rattle.isa.specs.Execute.{ordinary, executed}
+use Rattle.isa.specs.Mil1750.{classOf, contextOf, mil1750}
+use Rattle.access.specs.Needs.{exceptions, wayOf, needOf}
+use Rattle.access.proofs.NeedsLaws.{told, untold, reads-span, writes-span, way-told}
+use Rattle.direct.proofs.WayLaws.{way-user}
+use Rattle.block.specs.Operation.{isBlock, Worked}
+use Rattle.machine.proofs.StepLaws.{keeps-key, keeps-group}
+use Rattle.ordinary.specs.Gathers.{FirstThree}
+use Rattle.clock.specs.Later.{later}
+use Rattle.moved.specs.declared.Moved.{Moved}
+use Rattle.moved.specs.Settled.{Lasting}
+use Rattle.moved.proofs.TimeLaws.{same-by}
+
+-- ---- whether the choice of an interrupt stays
+
+-- a user's effect leaves it, as long as PI is what it was, and leaves the time
+pub settled-by : (c d : Core) (r : Moved) (regs regs' : List ℕ) (e : Effect) → r .core ≡ d → r .lagging ≡ true → r .settled ≡ eqb (d .pi) (c .pi)
+    → joined d regs' ≡ affected (joined c regs) e → Lasting c r
+unfolding affected withPi withSw withIc withRegs
+settled-by c d r regs regs' e i l t h = record {
+  time-kept = λ k. rw i (same-by c d regs regs' (affected (joined c regs) e) h refl);
+  choice-kept = λ k. rw i (record {
+    pi-kept = eqb-true (d .pi) (c .pi) (sym t ∙ k);
+    mk-kept = ap (λ (s : State). s .mk) h;
+    enabled-kept = ap (λ (s : State). s .enabled) h;
+    hold-kept = ap (λ (s : State). s .hold) h;
+    key-kept = ap (λ (s : State). keyOf (s .sw)) h ∙ keeps-key (c .sw) (e .cs);
+    group-kept = ap (λ (s : State). groupOf (s .sw)) h ∙ keeps-group (c .sw) (e .cs);
+  });
+  lags = λ k. l;
+}
+
+-- ---- an instruction up to its accesses does not see the time
+
+module _ (n : ℕ) (s : State) (v : View) where
+  redirected-later : (f w x : ℕ) (got : Got) → redirected (later n s) f w x got ≡ redirected s f w x got
+  unfolding redirected advanced
+  redirected-later f w x (Word a) = refl
+  redirected-later f w x (Missed b) = refl
+
+  derived-later : (f w x : ℕ) (b : Bool) → derived mil1750 (later n s) v f w x b ≡ derived mil1750 s v f w x b
+  unfolding derived mil1750
+  derived-later f w x false = refl
+  derived-later f w x true = redirected-later f w x (v .read (mil1750 .base (modeOf f) s w x))
+
+  extended-later : (f w : ℕ) (got : Got) → extended mil1750 (later n s) v f w got ≡ extended mil1750 s v f w got
+  unfolding extended advanced
+  extended-later f w (Word x) = derived-later f w x (eqb (modeOf f) 7)
+  extended-later f w (Missed b) = refl
+
+  granted-later : (f w : ℕ) (a b : Bool) → granted mil1750 (later n s) v f w a b ≡ granted mil1750 s v f w a b
+  unfolding granted advanced
+  granted-later f w false b = refl
+  granted-later f w true false = derived-later f w 0 (eqb (modeOf f) 7)
+  granted-later f w true true = extended-later f w (v .fetch (advanced s 1))
+
+  decoded-later : (f w : ℕ) (b : Bool) → decoded mil1750 (later n s) v f w b ≡ decoded mil1750 s v f w b
+  unfolding decoded advanced
+  decoded-later f w true = refl
+  decoded-later f w false = granted-later f w (permitted (mil1750 .class (operationOf f)) (keyOf (s .sw))) (eqb (lengthOf f) 2)
+
+  fetched-later : (got : Got) → fetched mil1750 (later n s) v got ≡ fetched mil1750 s v got
+  unfolding fetched advanced
+  fetched-later (Word w) = decoded-later (mil1750 .decode w) w (eqb (mil1750 .decode w) 0)
+  fetched-later (Missed b) = refl
+
+  pub prepared-later : prepared mil1750 (later n s) v ≡ prepared mil1750 s v
+  unfolding prepared
+  prepared-later = fetched-later (v .fetch (s .ic))
+
+-- ---- a user's operation
+
+-- two operations of which one is on blocks and the other not
+apart : (operation k : ℕ) → (isBlock operation ≡ isBlock k → ⊥) → eqb operation k ≡ false
+apart operation k h = by (eqb operation k) refl
+  where
+    by : (b : Bool) → eqb operation k ≡ b → eqb operation k ≡ false
+    by true e = absurd (h (ap isBlock (eqb-true operation k e)))
+    by false e = e
+
+-- an operation that is not on blocks is none of theirs
+differs : (operation k : ℕ) → isBlock operation ≡ false → isBlock k ≡ true → eqb operation k ≡ false
+differs operation k h i = apart operation k (λ e. false≢true (sym h ∙ e ∙ i))
+
+-- the weight of those on blocks, computed at every operation
+block-told : (k : ℕ) → k < 256 → needOf k / 64 % 2 ≡ cond (isBlock k) 1 0
+unfolding needOf exceptions wayOf wordsRead wordsMoved wordsOfFloat wordsOfInteger wordsWritten isBlock
+block-told k h = eqb-true _ _ (tests.passes (λ (j : ℕ). eqb (needOf j / 64 % 2) (cond (isBlock j) 1 0)) 256 refl k h)
+
+pub block-need : (form : ℕ) → isBlock (operationOf form) ≡ true → needOf (operationOf form) / 64 % 2 ≡ 1
+block-need form h = block-told (operationOf form) (omega arith) ∙ ap (λ (b : Bool). cond b 1 0) h
+
+module _ (form need : ℕ) (e : need ≡ needOf (operationOf form)) where
+  weight : need / 64 % 2 ≡ cond (isBlock (operationOf form)) 1 0
+  weight = ap (λ (m : ℕ). m / 64 % 2) e ∙ block-told (operationOf form) (omega arith)
+
+  pub on-block : need / 64 % 2 ≡ 1 → isBlock (operationOf form) ≡ true
+  on-block = told (isBlock (operationOf form)) (need / 64 % 2) weight
+
+  pub off-block : (need / 64 % 2 ≡ 1 → ⊥) → isBlock (operationOf form) ≡ false
+  off-block = untold (isBlock (operationOf form)) (need / 64 % 2) weight
+
+  weightless : isBlock (operationOf form) ≡ false → need / 64 % 2 ≡ 0
+  weightless h = weight ∙ ap (λ (b : Bool). cond b 1 0) h
+
+-- where the words that it reads and writes start and how many they are, as the code finds them, are their spans
+module _ (regs : List ℕ) (n : Instruction) (need from count : ℕ) (e : need ≡ needOf (operationOf (n .form))) (h : isBlock (operationOf (n .form)) ≡ false) where
+  pub reads-by : (need / 64 % 2 ≡ 0 → from ≡ readsOf regs n .start) → ((r : List ℕ) → need / 64 % 2 ≡ 0 → count ≡ readsOf r n .count)
+      → spanFrom from count ≡ readsOf regs n
+  reads-by i j = let p = weightless (n .form) need e h in reads-span regs n need e p from count (i p) (j regs p)
+
+  pub writes-by : (need / 64 % 2 ≡ 0 → from ≡ writesOf regs n .start) → ((r : List ℕ) → need / 64 % 2 ≡ 0 → count ≡ writesOf r n .count)
+      → spanFrom from count ≡ writesOf regs n
+  writes-by i j = let p = weightless (n .form) need e h in writes-span regs n need e p from count (i p) (j regs p)
+
+-- those on blocks are users'
+pub block-user : (operation : ℕ) → isBlock operation ≡ true → classOf operation ≡ User
+unfolding isBlock classOf privilegedOperations
+block-user operation h =
+    let f : (k : ℕ) → isBlock k ≡ false → eqb operation k ≡ false = λ k i. apart operation k (λ e. false≢true (sym i ∙ sym e ∙ h)) in
+    rw (f 30 refl, f 1 refl, f 35 refl) refl
+
+-- whether each rule has at most three
+abbrev few : List (ℕ × ℕ) → Bool
+few [] = true
+few (r ∷ rs) = leb (r .1) 3 && few rs
+
+select-few : (k : ℕ) (rs : List (ℕ × ℕ)) → few rs ≡ true → select k rs 0 ≤ 3
+select-few k [] h = omega arith
+select-few k (r ∷ rs) h = let u = tests.both (leb (r .1) 3) (few rs) h in by (eqb k (r .0)) (leb-true (r .1) 3 (u .0)) (select-few k rs (u .1))
+  where
+    by : (b : Bool) → r .1 ≤ 3 → select k rs 0 ≤ 3 → cond b (r .1) (select k rs 0) ≤ 3
+    by true p q = p
+    by false p q = q
+
+written-few : (k : ℕ) → wordsWritten k ≤ 3
+unfolding wordsWritten
+written-few k =
+    select-few k
+    ((3, 1) ∷ (4, 1) ∷ (6, 1) ∷
+    (45, 1) ∷ (46, 1) ∷ (48, 2) ∷ (49, 1) ∷ (51, 3) ∷ (52, 1) ∷ (53, 1) ∷
+    (56, 1) ∷ (64, 1) ∷
+    [])
+    refl
+
+module _ (v : Context) (n : Instruction) (h : isBlock (operationOf (n .form)) ≡ false) where
+  -- it sees the first three words alone
+  ordinary-executed : (ws : List ℕ) → ordinary v n (getD ws 0 0) (getD ws 1 0) (getD ws 2 0) (operationOf (n .form)) ≡ executed v n ws
+  unfolding executed isBlock
+  ordinary-executed ws =
+      let f : (k : ℕ) → isBlock k ≡ true → eqb (operationOf (n .form)) k ≡ false = λ k i. differs (operationOf (n .form)) k h i in
+      rw (f 40 refl, f 44 refl, f 47 refl, f 50 refl, f 54 refl, f 90 refl) refl
+
+-- it writes at most three words
+pub few-written : (regs : List ℕ) (n : Instruction) → isBlock (operationOf (n .form)) ≡ false → writesOf regs n .count ≤ 3
+unfolding writesOf isBlock atOperand
+few-written regs n h =
+    let f : (k : ℕ) → isBlock k ≡ true → eqb (operationOf (n .form)) k ≡ false = λ k i. differs (operationOf (n .form)) k h i in
+    rw (f 47 refl, f 50 refl, f 54 refl) (by (eqb (operationOf (n .form)) 36) (inMemory (modeOf (n .form))) (wrapped (register regs (fieldA (n .first)) + 65535)))
+  where
+    by : (t u : Bool) (a : ℕ) → (cond {A = Span} t (spanFrom a 1) (spanFrom (n .address) (cond u (wordsWritten (operationOf (n .form))) 0))) .count ≤ 3
+    by true u a = omega arith
+    by false true a = written-few (operationOf (n .form))
+    by false false a = omega arith
+
+pub worked-ordinary : (s : State) (m g : List ℕ) (n : Instruction) (ws : List ℕ) (x y z : ℕ) (to : Span) (t : State) (w : List ℕ)
+    → isBlock (operationOf (n .form)) ≡ false → FirstThree ws x y z → to ≡ writesOf (s .regs) n
+    → t ≡ affected s (ordinary (contextOf s) n x y z (operationOf (n .form)))
+    → w ≡ stored s m g (ordinary (contextOf s) n x y z (operationOf (n .form))) to
+    → Worked s m g n (executed (contextOf s) n ws) t w
+worked-ordinary s m g n ws x y z to t w h e j p q =
+    let d : ordinary (contextOf s) n x y z (operationOf (n .form)) ≡ executed (contextOf s) n ws =
+    rw (e .first-is, e .second-is, e .third-is) (ordinary-executed (contextOf s) n h ws) in
+    record { state-is = p ∙ ap (affected s) d; memory-is = q ∙ ap (λ k. stored s m g k to) d ∙ ap (stored s m g (executed (contextOf s) n ws)) j }
+
+-- the same n ticks later, after which the state is u
+pub became-worked : (n : ℕ) (s : State) (m g o : List ℕ) (i : Instruction) (e : Effect) (t u : State) (w : List ℕ)
+    → Worked s m g i e t w → u ≡ later n t → Became (perform (later n s) m g o (affect e (writesOf (s .regs) i))) u w g o
+unfolding perform affected stored withPi withSw withIc withRegs
+became-worked n s m g o i e t u w b h = record { state-is = h ∙ ap (later n) (b .state-is); memory-is = b .memory-is; pages-is = refl; ports-is = refl }
+
+-- one without a way is a user's
+pub no-way : (n : Instruction) (need : ℕ) → need ≡ needOf (operationOf (n .form)) → need < 128 → classOf (operationOf (n .form)) ≡ User
+no-way n need e h = let w = way-told (n .form) need e in way-user n 0 (omega (arith, w, h)) (omega arith)

@@ -1,0 +1,52 @@
+-- `instruct::carry_block` meets its contract. Assumes nothing.
+use mathlib.Core.Path.{_≡_, refl, sym, ap, _∙_}
+use Rattle.clock.specs.Later.{later}
+use Rattle.moved.proofs.ActLaws.{carried-clear}
+use Rattle.instruct.proofs.UserLaws.{became-worked, block-user, settled-by}
+use Rattle.block.proofs.HereLaws.{attempt-done, attempt-left}
+use Rattle.machine.specs.State.{joined}
+use Rattle.machine.specs.Instructions.{operated}
+use Rattle.isa.specs.Mil1750.{mil1750, contextOf}
+use borrow.Author.Needs.{needs}
+use Rattle.instruct.proofs.carry_block.Statement.{statement}
+use Rattle.instruct.proofs.carry_block.Tie as tie
+use Rattle.instruct.proofs.carry_block.Reads as reads
+use Rattle.instruct.proofs.carry_block.Lts as lts
+use Rattle.block.proofs.here.try_block.Reads as try-block-reads
+use Rattle.instruct.proofs.carry_words.Reads as carry-words-reads
+use Rattle.moved.proofs.weighed.Reads as weighed-reads
+
+try-block-requires : tie.Need-try-block-requires
+try-block-requires c κs = (c .before .before .before .before .pre .0, c .before .before .before .before .pre .2, c .before .before .before .before .pre .3, c .before .before .before .before .pre .4)
+
+weighed-requires : tie.Need-weighed-requires
+weighed-requires c κs = search needs
+
+same-length : tie.Need-same-length
+same-length c = search needs
+
+returns : tie.Need-returns
+unfolding operated mil1750 contextOf
+returns c = (λ lag ports. rw (← carried-clear (later lag (joined (c .before .before .before .before .before .before .before .before .before .args .core) (c .before .before .before .before .before .before .before .before .before .args .regs .now))) (c .before .before .before .before .before .before .before .before .before .args .memory .now) (c .before .before .before .before .before .before .before .before .before .args .pages .now) ports (c .before .before .before .before .before .before .before .before .before .args .n) _ _ _ refl refl refl (attempt-done (joined (c .before .before .before .before .before .before .before .before .before .args .core) (c .before .before .before .before .before .before .before .before .before .args .regs .now)) (c .before .before .before .before .before .before .before .before .before .args .memory .now) (c .before .before .before .before .before .before .before .before .before .args .pages .now) (c .before .before .before .before .before .before .before .before .before .args .n) _ _ _ (c .before .if1 .taken) (c .before .before .before .before .try-block .ensures) .admitted), block-user _ (c .before .before .before .before .before .before .before .before .before .pre .1)) (became-worked lag (joined (c .before .before .before .before .before .before .before .before .before .args .core) (c .before .before .before .before .before .before .before .before .before .args .regs .now)) (c .before .before .before .before .before .before .before .before .before .args .memory .now) (c .before .before .before .before .before .before .before .before .before .args .pages .now) ports (c .before .before .before .before .before .before .before .before .before .args .n) _ _ _ _ (attempt-done (joined (c .before .before .before .before .before .before .before .before .before .args .core) (c .before .before .before .before .before .before .before .before .before .args .regs .now)) (c .before .before .before .before .before .before .before .before .before .args .memory .now) (c .before .before .before .before .before .before .before .before .before .args .pages .now) (c .before .before .before .before .before .before .before .before .before .args .n) _ _ _ (c .before .if1 .taken) (c .before .before .before .before .try-block .ensures) .worked) (c .weighed .ensures .3 _ _)), settled-by (c .before .before .before .before .before .before .before .before .before .args .core) _ _ (c .before .before .before .before .before .before .before .before .before .args .regs .now) _ _ (c .weighed .ensures .1) (c .weighed .ensures .2) (c .weighed .ensures .0) (attempt-done (joined (c .before .before .before .before .before .before .before .before .before .args .core) (c .before .before .before .before .before .before .before .before .before .args .regs .now)) (c .before .before .before .before .before .before .before .before .before .args .memory .now) (c .before .before .before .before .before .before .before .before .before .args .pages .now) (c .before .before .before .before .before .before .before .before .before .args .n) _ _ _ (c .before .if1 .taken) (c .before .before .before .before .try-block .ensures) .worked .state-is))
+
+carry-words-requires : tie.Need-carry-words-requires
+carry-words-requires c κs = (c .before .before .before .before .before .before .before .before .before .before .pre .0, c .before .before .before .before .before .before .before .before .before .before .pre .1)
+
+same-length-2 : tie.Need-same-length-2
+same-length-2 c = search needs
+
+returns-2 : tie.Need-returns-2
+unfolding operated mil1750 contextOf
+returns-2 c = rw (← attempt-left (joined (c .before .before .before .before .before .before .before .before .before .before .before .before .before .args .core) (c .before .before .before .before .before .before .before .before .before .before .before .before .before .args .regs .now)) (c .before .before .before .before .before .before .before .before .before .before .before .before .before .args .memory .now) (c .before .before .before .before .before .before .before .before .before .before .before .before .before .args .pages .now) (c .before .before .before .before .before .before .before .before .before .before .before .before .before .args .n) _ _ _ (c .before .before .before .before .before .if1 .left) (c .before .before .before .before .before .before .before .before .try-block .ensures) .0, ← attempt-left (joined (c .before .before .before .before .before .before .before .before .before .before .before .before .before .args .core) (c .before .before .before .before .before .before .before .before .before .before .before .before .before .args .regs .now)) (c .before .before .before .before .before .before .before .before .before .before .before .before .before .args .memory .now) (c .before .before .before .before .before .before .before .before .before .before .before .before .before .args .pages .now) (c .before .before .before .before .before .before .before .before .before .before .before .before .before .args .n) _ _ _ (c .before .before .before .before .before .if1 .left) (c .before .before .before .before .before .before .before .before .try-block .ensures) .1) (c .before .before .carry-words .ensures)
+
+pub carry-block-spec : {M : Type 1} → statement M
+carry-block-spec =
+    tie.close
+    (tie.spec
+    try-block-requires
+    weighed-requires
+    same-length
+    returns
+    carry-words-requires
+    same-length-2
+    returns-2)

@@ -1,0 +1,241 @@
+// One instruction (Scope, "One step", 2 and 3), on a core and the registers lent beside it; key and group are those of its SW. Callers have
+// 512 page registers and 1,024 ports: a run asks for them. The core may lag some calm ticks behind the state: only the commands of timers see
+// the time.
+ghost use mathlib.Core.Path.{_≡_};
+ghost use mathlib.Core.Bool.{true, false};
+ghost use mathlib.Core.List.{List};
+ghost use Prim.Native.Nat.{ℕ, _/_, _<_, _%_};
+ghost use lib.ListN.{length};
+ghost use Rattle.page.specs.Spans.{checked, wordsOf};
+ghost use Rattle.decode.specs.Forms.{operationOf};
+ghost use Rattle.decode.specs.Decode.{forms};
+ghost use Rattle.machine.specs.State.{keyOf, groupOf, joined};
+ghost use Rattle.machine.specs.Machine.{Became};
+ghost use Rattle.machine.specs.Instructions as spec;
+ghost use Rattle.machine.specs.Step.{perform};
+ghost use Rattle.isa.specs.Accesses.{readsOf, writesOf};
+ghost use Rattle.isa.specs.Mil1750.{mil1750};
+ghost use Rattle.access.specs.Needs.{wayOf, needOf, allNeeds};
+ghost use Rattle.block.specs.Operation.{isBlock};
+ghost use Rattle.ordinary.specs.Gathers.{FirstThree};
+ghost use Rattle.clock.specs.Later.{Calm, later};
+ghost use Rattle.moved.specs.Settled.{Lasting, after};
+use access::accesses::reads;
+use access::accesses::span_from;
+use access::accesses::writes;
+use access::needs::need_with;
+use access::needs::read_count;
+use access::needs::read_start;
+use access::needs::write_count;
+use access::needs::write_start;
+use block::block;
+use block::here::try_block;
+use clock::time::fault;
+use direct::direct;
+use machine::Core;
+use machine::Instruction;
+use machine::Prepared;
+use moved::Moved;
+use moved::deny;
+use moved::weighed;
+use ordinary::Gathered;
+use ordinary::gather;
+use ordinary::work;
+use page::Access;
+use page::Span;
+use page::Verdict;
+use page::lookup::check_span;
+use prepare::prepare;
+use status::advance;
+use status::group_of;
+use status::key_of;
+use system::carry_system;
+
+// The first refusal: all reads, then all writes.
+fn verify(sw: u16, pages: &[u16], size: usize, from: Span, to: Span) -> Verdict
+    requires { ⌜ length (now pages) ≡ 512 ⌝ }
+    ensures { λ r. ⌜ r ≡ spec.both (checked (keyOf sw) (groupOf sw) (now (pages .entry)) size from Access.Read)
+        (checked (keyOf sw) (groupOf sw) (now (pages .entry)) size to Access.Write) ⌝ }
+{
+    let key = key_of(sw);
+    let group = group_of(sw);
+    let verdict = check_span(Access::Read, key, group, pages, size, from);
+    match verdict {
+        Verdict::Clear => check_span(Access::Write, key, group, pages, size, to),
+        Verdict::Fault(b) => Verdict::Fault(b),
+    }
+}
+
+// An operation on a block, word by word, with any ports: its accesses are checked before it changes anything.
+fn carry_words(
+    core: Core,
+    regs: &mut [u16; 16],
+    memory: &mut [u16],
+    pages: &[u16],
+    n: Instruction,
+) -> Moved
+    requires { ⌜ (length (now pages) ≡ 512) × (isBlock (operationOf (n .form)) ≡ true) ⌝ }
+    ensures { λ r. ⌜ ((lag : ℕ) (ports : List ℕ) → Became (perform (later lag (joined core (now (regs .entry)))) (now (memory .entry)) (now (pages .entry)) ports
+        (spec.carried mil1750 (later lag (joined core (now (regs .entry)))) (now (pages .entry)) ports
+        (spec.view (later lag (joined core (now (regs .entry)))) (now (memory .entry)) (now (pages .entry))) (Prepared.Ready n)))
+        (after (r .lagging) lag (joined (r .core) (now (regs .exit)))) (now (memory .exit)) (now (pages .entry)) ports)
+        × Lasting core r ⌝ }
+{
+    let from = reads(regs, n);
+    let to = writes(regs, n);
+    let verdict = verify(core.sw, pages, memory.len(), from, to);
+    match verdict {
+        Verdict::Clear => weighed(core.pi, block(core, regs, memory, pages, n, from)),
+        Verdict::Fault(b) => deny(core, b, advance(core.ic, n.form / 4096)),
+    }
+}
+
+// An operation on a block, with any ports: at once where that can be.
+fn carry_block(
+    core: Core,
+    key: u16,
+    group: u16,
+    regs: &mut [u16; 16],
+    memory: &mut [u16],
+    pages: &[u16],
+    n: Instruction,
+) -> Moved
+    requires { ⌜ (length (now pages) ≡ 512) × (isBlock (operationOf (n .form)) ≡ true) × (key ≡ keyOf (core .sw)) × (group ≡ groupOf (core .sw)) × (group < 16) ⌝ }
+    ensures { λ r. ⌜ ((lag : ℕ) (ports : List ℕ) → Became (perform (later lag (joined core (now (regs .entry)))) (now (memory .entry)) (now (pages .entry)) ports
+        (spec.carried mil1750 (later lag (joined core (now (regs .entry)))) (now (pages .entry)) ports
+        (spec.view (later lag (joined core (now (regs .entry)))) (now (memory .entry)) (now (pages .entry))) (Prepared.Ready n)))
+        (after (r .lagging) lag (joined (r .core) (now (regs .exit)))) (now (memory .exit)) (now (pages .entry)) ports)
+        × Lasting core r ⌝ }
+{
+    let tried = try_block(core, key, group, regs, memory, pages, n);
+    if tried.done {
+        return weighed(core.pi, tried.core);
+    }
+    carry_words(core, regs, memory, pages, n)
+}
+
+// A user's operation on at most three words, which have been read as g, with any ports: its stores are checked before it changes anything.
+fn proceed(
+    core: Core,
+    key: u16,
+    group: u16,
+    regs: &mut [u16; 16],
+    memory: &mut [u16],
+    pages: &[u16],
+    n: Instruction,
+    g: Gathered,
+    need: u16,
+) -> Moved
+    requires { ⌜ (length (now pages) ≡ 512) × (isBlock (operationOf (n .form)) ≡ false)
+        × FirstThree (wordsOf (keyOf (core .sw)) (groupOf (core .sw)) (now pages) (length (now memory)) (readsOf (now regs) n) (now memory)) (g .x) (g .y) (g .z) × (key ≡ keyOf (core .sw)) × (group ≡ groupOf (core .sw)) × (group < 16)
+        × (need ≡ needOf (operationOf (n .form))) × (need < 128) ⌝ }
+    ensures { λ r. ⌜ ((lag : ℕ) (ports : List ℕ) → Became (perform (later lag (joined core (now (regs .entry)))) (now (memory .entry)) (now (pages .entry)) ports
+        (spec.accessed mil1750 (later lag (joined core (now (regs .entry)))) (now (pages .entry)) ports
+        (spec.view (later lag (joined core (now (regs .entry)))) (now (memory .entry)) (now (pages .entry))) n
+        (checked (keyOf (core .sw)) (groupOf (core .sw)) (now (pages .entry)) (length (now (memory .entry))) (writesOf (now (regs .entry)) n) Access.Write)))
+        (after (r .lagging) lag (joined (r .core) (now (regs .exit)))) (now (memory .exit)) (now (pages .entry)) ports)
+        × Lasting core r ⌝ }
+{
+    let to = span_from(write_start(regs, n, need), write_count(n, need));
+    let verdict = check_span(Access::Write, key, group, pages, memory.len(), to);
+    match verdict {
+        Verdict::Clear => {
+            let done = work(core, regs, memory, pages, n, g.x, g.y, g.z, to);
+            weighed(core.pi, done)
+        }
+        Verdict::Fault(b) => deny(core, b, advance(core.ic, n.form / 4096)),
+    }
+}
+
+// An operation with a way of its own, with any ports: its accesses are checked before it changes anything.
+fn carry_direct(
+    core: Core,
+    key: u16,
+    group: u16,
+    regs: &mut [u16; 16],
+    memory: &mut [u16],
+    pages: &[u16],
+    n: Instruction,
+    way: u16,
+) -> Moved
+    requires { ⌜ (length (now pages) ≡ 512) × (key ≡ keyOf (core .sw)) × (group ≡ groupOf (core .sw)) × (group < 16)
+        × (way ≡ wayOf (operationOf (n .form))) × (0 < way) × (way < 6) ⌝ }
+    ensures { λ r. ⌜ ((lag : ℕ) (ports : List ℕ) → Became (perform (later lag (joined core (now (regs .entry)))) (now (memory .entry)) (now (pages .entry)) ports
+        (spec.carried mil1750 (later lag (joined core (now (regs .entry)))) (now (pages .entry)) ports
+        (spec.view (later lag (joined core (now (regs .entry)))) (now (memory .entry)) (now (pages .entry))) (Prepared.Ready n)))
+        (after (r .lagging) lag (joined (r .core) (now (regs .exit)))) (now (memory .exit)) (now (pages .entry)) ports)
+        × Lasting core r ⌝ }
+{
+    let end = direct(core, key, group, regs, memory, pages, n, way);
+    if end.clear {
+        return weighed(core.pi, end.core);
+    }
+    deny(core, end.fault, advance(core.ic, n.form / 4096))
+}
+
+// An instruction that is ready: its accesses are checked before it changes anything.
+fn carry(
+    core: Core,
+    lag: u32,
+    key: u16,
+    group: u16,
+    regs: &mut [u16; 16],
+    memory: &mut [u16],
+    pages: &mut [u16],
+    ports: &mut [u16],
+    n: Instruction,
+    need: u16,
+) -> Moved
+    requires { ⌜ (length (now pages) ≡ 512) × (length (now ports) ≡ 1024) × (key ≡ keyOf (core .sw)) × (group ≡ groupOf (core .sw)) × (group < 16) × Calm lag core × (need ≡ needOf (operationOf (n .form))) ⌝ }
+    ensures { λ r. ⌜ (Became (perform (later lag (joined core (now (regs .entry)))) (now (memory .entry)) (now (pages .entry)) (now (ports .entry))
+        (spec.carried mil1750 (later lag (joined core (now (regs .entry)))) (now (pages .entry)) (now (ports .entry)) (spec.view (later lag (joined core (now (regs .entry)))) (now (memory .entry)) (now (pages .entry))) (Prepared.Ready n)))
+        (after (r .lagging) lag (joined (r .core) (now (regs .exit)))) (now (memory .exit)) (now (pages .exit)) (now (ports .exit))) × Lasting core r ⌝ }
+{
+    if 768 <= need {
+        let way = need / 128;
+        return carry_system(core, lag, key, group, regs, memory, pages, ports, n, way);
+    }
+    if 128 <= need {
+        return carry_direct(core, key, group, regs, memory, pages, n, need / 128);
+    }
+    if need / 64 % 2 == 1 {
+        return carry_block(core, key, group, regs, memory, pages, n);
+    }
+    let from = read_start(regs, n, need);
+    let g = gather(key, group, memory, pages, from, read_count(n, need));
+    if g.clear {
+        return proceed(core, key, group, regs, memory, pages, n, g, need);
+    }
+    deny(core, g.fault, advance(core.ic, n.form / 4096))
+}
+
+// The instruction at IC, from a core whose hold mark is clear. The tables are the decoder's and that of needs.
+pub fn instruct(
+    core: Core,
+    lag: u32,
+    key: u16,
+    group: u16,
+    regs: &mut [u16; 16],
+    memory: &mut [u16],
+    pages: &mut [u16],
+    ports: &mut [u16],
+    table: &[u16; 256],
+    needs: &[u16; 256],
+) -> Moved
+    requires { ⌜ (length (now pages) ≡ 512) × (length (now ports) ≡ 1024) × (now table ≡ forms) × (key ≡ keyOf (core .sw)) × (group ≡ groupOf (core .sw)) × (group < 16) × Calm lag core
+        × (now needs ≡ allNeeds) ⌝ }
+    ensures { λ r. ⌜ (Became (perform (later lag (joined core (now (regs .entry)))) (now (memory .entry)) (now (pages .entry)) (now (ports .entry))
+        (spec.instructed mil1750 (later lag (joined core (now (regs .entry)))) (now (pages .entry)) (now (ports .entry))
+        (spec.view (later lag (joined core (now (regs .entry)))) (now (memory .entry)) (now (pages .entry)))))
+        (after (r .lagging) lag (joined (r .core) (now (regs .exit)))) (now (memory .exit)) (now (pages .exit)) (now (ports .exit)))
+        × Lasting core r ⌝ }
+{
+    let prepared = prepare(core, key, group, regs, memory, pages, table);
+    match prepared {
+        Prepared::Ready(n) => {
+            let need = need_with(needs, n.form);
+            carry(core, lag, key, group, regs, memory, pages, ports, n, need)
+        }
+        Prepared::Denied(b, a) => deny(core, b, a),
+    }
+}

@@ -1,0 +1,2 @@
+-- What an instruction may leave as it was.
+pub mod Settled
