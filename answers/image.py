@@ -15,16 +15,16 @@ MODULES = {
     'Rattle.machine.specs.Machine': 'machine',
     'Rattle.machine.specs.Runs': 'wholePages',
     'Rattle.machine.proofs.MachineLaws': 'became-machine machine-became',
-    'Rattle.image.specs.Reset': 'resetState cycle resetPages resetMachine',
+    'Rattle.reset.specs.Reset': 'resetState cycle resetPages resetMachine',
     'Rattle.image.specs.Image': 'wordAt longAt countOf entryAt wordsBefore tableEnd bodyAt wordsFrom numberOf asked andThen targetSize endOf share '
         'sharesEarlier entryAnswer entriesAnswer imageAnswer admission controlOf withControl withBodies',
-    'Rattle.image.proofs.FillLaws': 'Filled filled-none filled-length filled-more filled-all zeros',
+    'Rattle.reset.proofs.FillLaws': 'Filled filled-none filled-length filled-more filled-all zeros',
     'Rattle.image.proofs.DoorLaws': 'words-more shares-none shares-here shares-on kind-below kind-above no-words outside shared entry-right '
         'entries-none entries-on entries-out no-count many-entries short-table bad-entry bad-bodies image-right',
     'Rattle.image.proofs.SoundLaws': 'entries-within entries-rest image-sound ready',
-    'Rattle.image.proofs.BodyLaws': 'words-none words-step bodies-none bodies-step body-next body-inside table-inside '
+    'Rattle.loader.proofs.BodyLaws': 'words-none words-step bodies-none bodies-step body-next body-inside table-inside '
         'within-memory within-pages within-registers within-control to-memory to-pages to-registers to-control',
-    'Rattle.image.proofs.LoadLaws': 'refused accepted',
+    'Rattle.loader.proofs.LoadLaws': 'refused accepted',
 }
 
 

@@ -3,7 +3,7 @@ ghost use Rattle.capi.specs.Calls.{Replied, loading};
 use packed::pack;
 use packed::unpack;
 
-// Loading: what image::load does, on the packed state.
+// Loading: what loader::load does, on the packed state.
 #[no_mangle]
 pub extern "C" fn twin1750_load(
     image: &[u8],
@@ -19,7 +19,7 @@ pub extern "C" fn twin1750_load(
         return 100;
     }
     let given = unpack(state);
-    let loaded = image::load::load(given, image, memory, pages, ports);
+    let loaded = loader::load(given, image, memory, pages, ports);
     let answer = loaded.answer;
     let refused = image::door::number(answer) as u32;
     if refused != 0 {

@@ -1,8 +1,4 @@
--- The laws of reset, of the questions to an image and of its bodies, and rows of known images.
-pub mod FillLaws
+-- The laws of the questions to an image.
 pub mod DoorLaws
 pub mod SoundLaws
 pub mod ShareLaws
-pub mod BodyLaws
-pub mod LoadLaws
-pub mod Rows

@@ -13,7 +13,7 @@ use Rattle.machine.specs.Runs.{wholePages}
 use Rattle.image.specs.declared.Entry.{Entry}
 use Rattle.image.specs.declared.Loading.{Loading}
 use Rattle.image.specs.declared.Loading.the-variants.{Accepted, BadMemory, BadPages, BadPorts, NoCount, ManyEntries, ShortTable, BadKind, BadRange, SharedWord, BadBodies}
-use Rattle.image.specs.Reset.{resetMachine}
+use Rattle.reset.specs.Reset.{resetMachine}
 
 -- ---- the parts of an image, most significant byte first
 

@@ -1,3 +1,2 @@
--- The definitions of reset and of loading an image.
-pub mod Reset
+-- The definition of images and of loading them.
 pub mod Image

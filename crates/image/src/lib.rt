@@ -1,8 +1,6 @@
-// Reset, and the loader of images (Scope, "Image").
+// Images (Scope, "Image"): their table, and the questions to them.
 pub mod door;
-pub mod load;
-pub mod reset;
-mod table;
+pub mod table;
 
 // An entry of an image's table: its kind (1 memory, 2 page registers, 3 R0 to R15, 4 the words IC, SW, MK, PI, FT), and the first word
 // and the number of words that its body fills.
@@ -27,10 +25,4 @@ pub enum Loading {
     BadRange,
     SharedWord,
     BadBodies,
-}
-
-// What loading hands back.
-pub struct Loaded {
-    pub answer: Loading,
-    pub state: machine::State,
 }

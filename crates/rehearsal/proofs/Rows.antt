@@ -7,7 +7,7 @@ use Rattle.isa.proofs.OpenWords.{words}
 use Rattle.isa.proofs.OpenFloats.{floats}
 use Rattle.isa.proofs.OpenDecoder.{decoder}
 use Rattle.isa.proofs.OpenInstructions.{instructions}
-use Rattle.image.specs.Reset.{resetState, cycle, resetPages, resetMachine}
+use Rattle.reset.specs.Reset.{resetState, cycle, resetPages, resetMachine}
 use Rattle.image.specs.Image as image
 use Rattle.report.specs.Report.{digit, hex, leading, decimal, stepsLine, named, controlLine, registers, registersLine, reportOf, refusalOf}
 use Rattle.report.proofs.Rows.{exampleLines}

@@ -7,7 +7,7 @@ use lib.ListN.{length}
 use Rattle.machine.specs.Machine.{Machine}
 use Rattle.machine.specs.Runs.{numberOf, answerOf, left}
 use Rattle.isa.specs.Mil1750.{mil1750}
-use Rattle.image.specs.Reset.{resetMachine}
+use Rattle.reset.specs.Reset.{resetMachine}
 use Rattle.image.specs.Image.{countOf, withBodies, admission}
 use Rattle.image.specs.Image as image
 use Rattle.report.specs.Report.{reportOf, refusalOf}

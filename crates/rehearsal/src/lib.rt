@@ -37,8 +37,8 @@ pub fn rehearse(
     if 32768 < input.len() {
         return report::refusal(13, out);
     }
-    let fresh = image::reset::reset(memory, pages, ports);
-    let loaded = image::load::load(fresh, input, memory, pages, ports);
+    let fresh = reset::reset(memory, pages, ports);
+    let loaded = loader::load(fresh, input, memory, pages, ports);
     let answer = loaded.answer;
     let refused = image::door::number(answer) as u32;
     if refused != 0 {

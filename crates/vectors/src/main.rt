@@ -31,7 +31,7 @@ fn begin(
     pages: &mut [u16; 512],
     ports: &mut [u16; 1024],
 ) -> Reading {
-    let state = image::reset::reset(memory, pages, ports);
+    let state = reset::reset(memory, pages, ports);
     Reading {
         ended: false,
         at: 0,

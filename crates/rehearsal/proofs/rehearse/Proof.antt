@@ -8,8 +8,8 @@ use Rattle.rehearsal.proofs.rehearse.Tie as tie
 use Rattle.rehearsal.proofs.rehearse.Reads as reads
 use Rattle.rehearsal.proofs.rehearse.Lts as lts
 use Rattle.image.proofs.door.number.Reads as number-reads
-use Rattle.image.proofs.load.load.Reads as load-reads
-use Rattle.image.proofs.reset.reset.Reads as reset-reads
+use Rattle.loader.proofs.load.Reads as load-reads
+use Rattle.reset.proofs.reset.Reads as reset-reads
 use Rattle.rehearsal.proofs.run_and_report.Reads as run-and-report-reads
 use Rattle.report.proofs.refusal.Reads as refusal-reads
 

@@ -1,0 +1,2 @@
+-- The laws of reset.
+pub mod FillLaws

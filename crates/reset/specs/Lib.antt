@@ -1,0 +1,2 @@
+-- The definition of reset.
+pub mod Reset
