@@ -6,8 +6,8 @@ OMEGA = 'native.Mathlib.Omega.{arith}'
 NAT = 'Prim.Native.Nat.{_+_, _-_, _*_, _/_, _%_}'
 OTHERWISE = 'Rattle.choice.proofs.SelectLaws.{otherwise}'
 USE = [EQUATIONS]
-OWN = 'Rattle.access.specs.Needs.'
-NEEDED = 'Rattle.access.proofs.NeedsLaws.'
+OWN = 'Rattle.needs.specs.Needs.'
+NEEDED = 'Rattle.needs.proofs.NeedsLaws.'
 SPECS = {'Fields': 'Rattle.isa.specs.Fields', 'Addressing': 'Rattle.isa.specs.Addressing', 'Accesses': 'Rattle.isa.specs.Accesses',
          'Spans': 'Rattle.page.specs.Spans'}
 # contracts that give the result's bound after its value

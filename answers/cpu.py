@@ -121,7 +121,7 @@ A = {
             '(worked-ordinary %s (@args .memory .now) (@args .pages .now) (@args .n) _ _ _ _ _ _ _ (@Start .pre .1) (@Start .pre .2) (%s) (@work .ensures .0) (@work .ensures .1)) (@weighed .ensures .3 _ _)), %s)'
             % (STORES, PLAIN, PLAIN, TO, settled('work .ensures .0')),
         returns_2='(λ lag ports. rw (@deny .ensures .0, ← accessed-fault %s _ (@verdict .given .1), ← @advance .ensures) (%s), %s)' % (STORES, failed('ports', 'lag'), LASTS)),
-    'act/carry': by(use=[LATER, OMEGA, ACT + '{on-block, off-block, reads-by, words-read, carried-read, carried-denied, failed}', STATE + '{joined}', 'Rattle.access.proofs.NeedsLaws.{way-told}'],
+    'act/carry': by(use=[LATER, OMEGA, ACT + '{on-block, off-block, reads-by, words-read, carried-read, carried-denied, failed}', STATE + '{joined}', 'Rattle.needs.proofs.NeedsLaws.{way-told}'],
         carry_system_requires='(@Start .pre .0, @Start .pre .1, @Start .pre .2, @Start .pre .3, @Start .pre .4, @Start .pre .5, way-told %s (@Start .pre .6), omega (arith, @if1 .taken))' % FORM,
         carry_direct_requires='(@Start .pre .0, @Start .pre .2, @Start .pre .3, @Start .pre .4, way-told %s (@Start .pre .6), omega (arith, @if2 .taken), omega (arith, @if1 .left))' % FORM,
         carry_block_requires='(@Start .pre .0, on-block %s (@Start .pre .6) (@if3 .taken), @Start .pre .2, @Start .pre .3, @Start .pre .4)' % FORM,

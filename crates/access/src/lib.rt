@@ -1,6 +1,3 @@
-// The fields of an instruction, the operand of its addressing mode, and the words that it reads and writes; what each operation needs.
-pub mod accesses;
+// The fields of an instruction and the registers that they name, and the operand of its addressing mode.
 pub mod addressing;
 pub mod fields;
-pub mod needs;
-mod table;

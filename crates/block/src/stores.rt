@@ -12,15 +12,15 @@ ghost use Rattle.isa.specs.Effects.{Context};
 ghost use Rattle.isa.specs.Blocks.{movedWord, pushedWord, pushedFrom};
 ghost use Rattle.isa.specs.Execute.{executed};
 ghost use Rattle.block.specs.Operation.{isBlock};
-use access::accesses::all_from;
-use access::accesses::moved_span;
-use access::accesses::pushed_span;
 use access::fields::field_a;
 use access::fields::field_b;
 use access::fields::get;
 use access::fields::registers_from;
 use machine::Instruction;
 use page::write::write_span;
+use spans::all_from;
+use spans::moved_span;
+use spans::pushed_span;
 use std::num::wrapping_add_u16;
 
 // Register j as PSHM stores it as word number i, which is at most 15.

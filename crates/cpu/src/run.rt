@@ -12,7 +12,7 @@ ghost use Rattle.machine.specs.Instructions as spec;
 ghost use Rattle.machine.specs.Step.{released, perform};
 ghost use Rattle.machine.specs.Runs.{numberOf, wholePages, admission, answerOf, steps, left};
 ghost use Rattle.isa.specs.Mil1750.{mil1750};
-ghost use Rattle.access.specs.Needs.{allNeeds};
+ghost use Rattle.needs.specs.Needs.{allNeeds};
 ghost use Rattle.clock.specs.Later.{Calm, later};
 ghost use Rattle.moved.specs.Settled.{SameTime};
 ghost use Rattle.cpu.specs.Rows.{rowOf, Made};
@@ -314,7 +314,7 @@ pub fn run(
     let answer = ask(memory.len(), pages.len(), ports.len(), state.count, budget);
     if number(answer) == 0 {
         let table = decode::table();
-        let needs = access::needs::table();
+        let needs = needs::table();
         let mut regs = state.regs;
         let core = part(state);
         let last = run_steps(

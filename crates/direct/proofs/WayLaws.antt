@@ -25,8 +25,8 @@ use Rattle.isa.specs.Words.{registerPair, jumpOperation, loadOperation, storeOp
 use Rattle.isa.specs.Integers.{singleOutcome, doubleOutcome, integerOperation, logicalOperation}
 use Rattle.isa.specs.Execute.{ordinary, executed}
 use Rattle.isa.specs.Mil1750.{classOf}
-use Rattle.access.specs.Needs.{exceptions, wayOf, needOf}
-use Rattle.access.proofs.NeedsLaws.{operand-read, operand-written}
+use Rattle.needs.specs.Needs.{exceptions, wayOf, needOf}
+use Rattle.needs.proofs.NeedsLaws.{operand-read, operand-written}
 use Rattle.direct.specs.Ways.{plain, intoSingle, intoDouble, target, wordStored, isTaken}
 
 -- ---- the way of an operation

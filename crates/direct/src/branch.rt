@@ -4,7 +4,7 @@ ghost use mathlib.Core.List.{List};
 ghost use Prim.Native.Nat.{ℕ};
 ghost use Rattle.decode.specs.Forms.{operationOf};
 ghost use Rattle.machine.specs.State.{joined};
-ghost use Rattle.access.specs.Needs.{wayOf};
+ghost use Rattle.needs.specs.Needs.{wayOf};
 ghost use Rattle.direct.specs.Ways.{isTaken};
 ghost use Rattle.direct.specs.Ended.{Ended};
 use crate::Ending;

@@ -5,7 +5,7 @@ ghost use Prim.Native.Nat.{_<_};
 ghost use lib.ListN.{length};
 ghost use Rattle.decode.specs.Forms.{operationOf};
 ghost use Rattle.machine.specs.State.{keyOf, groupOf, joined};
-ghost use Rattle.access.specs.Needs.{wayOf};
+ghost use Rattle.needs.specs.Needs.{wayOf};
 ghost use Rattle.direct.specs.Ended.{Ended};
 use crate::branch::branch;
 use crate::double::into_double;

@@ -5,7 +5,7 @@ ghost use lib.ListN.{length};
 ghost use Rattle.fixed.specs.Fixed.{single};
 ghost use Rattle.decode.specs.Forms.{operationOf};
 ghost use Rattle.machine.specs.State.{keyOf, groupOf, joined};
-ghost use Rattle.access.specs.Needs.{wayOf};
+ghost use Rattle.needs.specs.Needs.{wayOf};
 ghost use Rattle.direct.specs.Ways.{plain, intoSingle};
 ghost use Rattle.direct.specs.Ended.{Ended};
 use crate::Ending;

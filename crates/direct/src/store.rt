@@ -4,7 +4,7 @@ ghost use Prim.Native.Nat.{_<_};
 ghost use lib.ListN.{length, set};
 ghost use Rattle.decode.specs.Forms.{operationOf};
 ghost use Rattle.machine.specs.State.{keyOf, groupOf, joined};
-ghost use Rattle.access.specs.Needs.{wayOf};
+ghost use Rattle.needs.specs.Needs.{wayOf};
 ghost use Rattle.direct.specs.Ways.{wordStored};
 ghost use Rattle.direct.specs.Ended.{Ended};
 use crate::Ending;

@@ -28,8 +28,8 @@ use Rattle.isa.specs.Accesses.{wordsMoved, wordsOfInteger, wordsOfFloat, wordsR
 use Rattle.isa.specs.Effects.{Context}
 use Rattle.isa.specs.Execute.{ordinary, executed}
 use Rattle.isa.specs.Mil1750.{classOf, contextOf, mil1750}
-use Rattle.access.specs.Needs.{exceptions, wayOf, needOf}
-use Rattle.access.proofs.NeedsLaws.{told, untold, reads-span, writes-span, way-told}
+use Rattle.needs.specs.Needs.{exceptions, wayOf, needOf}
+use Rattle.needs.proofs.NeedsLaws.{told, untold, reads-span, writes-span, way-told}
 use Rattle.direct.proofs.WayLaws.{way-user}
 use Rattle.block.specs.Operation.{isBlock, Worked}
 use Rattle.machine.proofs.StepLaws.{keeps-key, keeps-group}

@@ -23,7 +23,7 @@ use Rattle.isa.specs.Addressing.{inMemory}
 use Rattle.isa.specs.Accesses.{atOperand, readsOf, writesOf}
 use Rattle.isa.specs.Commands.{becomes, statusLoaded, supervisedBy}
 use Rattle.isa.specs.Mil1750.{classOf, mil1750}
-use Rattle.access.specs.Needs.{wayOf}
+use Rattle.needs.specs.Needs.{wayOf}
 use Rattle.command.specs.Outcome.{transferred}
 use Rattle.ordinary.specs.declared.Gathered.{Gathered}
 use Rattle.ordinary.specs.Gathers.{gathered}

@@ -12,7 +12,7 @@ ghost use Rattle.machine.specs.Machine.{Became};
 ghost use Rattle.machine.specs.Instructions as spec;
 ghost use Rattle.machine.specs.Step.{faulted, perform};
 ghost use Rattle.isa.specs.Mil1750.{mil1750};
-ghost use Rattle.access.specs.Needs.{wayOf};
+ghost use Rattle.needs.specs.Needs.{wayOf};
 ghost use Rattle.command.specs.Outcome.{transferred};
 ghost use Rattle.clock.specs.Later.{Calm, later};
 ghost use Rattle.moved.specs.Settled.{Lasting, after};

@@ -5,14 +5,14 @@ use native.Mathlib.Omega.{arith}
 use Rattle.instruct.proofs.UserLaws.{on-block, off-block, reads-by}
 use Rattle.moved.proofs.ActLaws.{words-read, carried-read, carried-denied, failed}
 use Rattle.machine.specs.State.{joined}
-use Rattle.access.proofs.NeedsLaws.{way-told}
+use Rattle.needs.proofs.NeedsLaws.{way-told}
 use borrow.Author.Needs.{needs}
 use Rattle.instruct.proofs.carry.Statement.{statement}
 use Rattle.instruct.proofs.carry.Tie as tie
 use Rattle.instruct.proofs.carry.Reads as reads
 use Rattle.instruct.proofs.carry.Lts as lts
-use Rattle.access.proofs.needs.read_count.Reads as read-count-reads
-use Rattle.access.proofs.needs.read_start.Reads as read-start-reads
+use Rattle.needs.proofs.read_count.Reads as read-count-reads
+use Rattle.needs.proofs.read_start.Reads as read-start-reads
 use Rattle.instruct.proofs.carry_block.Reads as carry-block-reads
 use Rattle.instruct.proofs.carry_direct.Reads as carry-direct-reads
 use Rattle.system.proofs.carry_system.Reads as carry-system-reads

@@ -11,8 +11,8 @@ use Rattle.instruct.proofs.carry_words.Statement.{statement}
 use Rattle.instruct.proofs.carry_words.Tie as tie
 use Rattle.instruct.proofs.carry_words.Reads as reads
 use Rattle.instruct.proofs.carry_words.Lts as lts
-use Rattle.access.proofs.accesses.reads.Reads as reads-reads
-use Rattle.access.proofs.accesses.writes.Reads as writes-reads
+use Rattle.spans.proofs.reads.Reads as reads-reads
+use Rattle.spans.proofs.writes.Reads as writes-reads
 use Rattle.block.proofs.block.Reads as block-reads
 use Rattle.moved.proofs.deny.Reads as deny-reads
 use Rattle.instruct.proofs.verify.Reads as verify-reads

@@ -11,7 +11,7 @@ use Rattle.instruct.proofs.instruct.Statement.{statement}
 use Rattle.instruct.proofs.instruct.Tie as tie
 use Rattle.instruct.proofs.instruct.Reads as reads
 use Rattle.instruct.proofs.instruct.Lts as lts
-use Rattle.access.proofs.needs.need_with.Reads as need-with-reads
+use Rattle.needs.proofs.need_with.Reads as need-with-reads
 use Rattle.instruct.proofs.carry.Reads as carry-reads
 use Rattle.moved.proofs.deny.Reads as deny-reads
 use Rattle.prepare.proofs.prepare.Reads as prepare-reads

@@ -11,9 +11,9 @@ use Rattle.instruct.proofs.proceed.Statement.{statement}
 use Rattle.instruct.proofs.proceed.Tie as tie
 use Rattle.instruct.proofs.proceed.Reads as reads
 use Rattle.instruct.proofs.proceed.Lts as lts
-use Rattle.access.proofs.accesses.span_from.Reads as span-from-reads
-use Rattle.access.proofs.needs.write_count.Reads as write-count-reads
-use Rattle.access.proofs.needs.write_start.Reads as write-start-reads
+use Rattle.spans.proofs.span_from.Reads as span-from-reads
+use Rattle.needs.proofs.write_count.Reads as write-count-reads
+use Rattle.needs.proofs.write_start.Reads as write-start-reads
 use Rattle.moved.proofs.deny.Reads as deny-reads
 use Rattle.moved.proofs.weighed.Reads as weighed-reads
 use Rattle.status.proofs.advance.Reads as advance-reads

@@ -11,7 +11,7 @@ use Rattle.cpu.proofs.run.run.Statement.{statement}
 use Rattle.cpu.proofs.run.run.Tie as tie
 use Rattle.cpu.proofs.run.run.Reads as reads
 use Rattle.cpu.proofs.run.run.Lts as lts
-use Rattle.access.proofs.needs.table.Reads as needs-table-reads
+use Rattle.needs.proofs.table.Reads as needs-table-reads
 use Rattle.cpu.proofs.run.ask.Reads as ask-reads
 use Rattle.cpu.proofs.run.join.Reads as join-reads
 use Rattle.cpu.proofs.run.number.Reads as number-reads
