@@ -66,7 +66,7 @@ ENTERED = ('enter-unseen (@args .core) (@arrive .result) REGS (@args .memory .no
 CALLED = 'call-unseen _ _ (@args .regs .now) %s _ _ (@call .ensures (@args .regs .now) (@args .ports .now))' % LISTS
 ATTEMPT = 'attempt-%%s %s (@args .memory .now) (@args .pages .now) (@args .n) _ _ _ (@if1 .%%s) (@try-block .ensures)' % PLAIN
 FINISHED = ATTEMPT % ('done', 'taken')
-HERE = 'Rattle.block.proofs.HereLaws.{attempt-done, attempt-left}'
+HERE = 'Rattle.one_page.proofs.HereLaws.{attempt-done, attempt-left}'
 
 LOADED = '(later lag %s) (@args .memory .now) (@args .pages .now) ports (@args .n) (@Start .pre .4) _ _ (@Start .pre .1) (@Start .pre .2) _ (@read-operand .ensures)' % PLAIN
 

@@ -9,16 +9,13 @@ ghost use Rattle.isa.specs.Mil1750.{contextOf};
 ghost use Rattle.isa.specs.Execute.{executed};
 ghost use Rattle.isa.specs.Accesses.{readsOf};
 ghost use Rattle.page.specs.Spans.{wordsOf};
-ghost use Rattle.block.specs.Operation.{isBlock, Worked};
+ghost use Rattle.rearrange.specs.Operation.{isBlock, Worked};
 use machine::Core;
 use machine::Instruction;
 use page::Span;
 use page::read::read_span;
+use rearrange::operation::rearrange;
 
-pub mod here;
-pub mod operation;
-pub mod registers;
-mod rows;
 pub mod stores;
 
 // One of these: its words are read from the span, then stored, then the registers are set. Its caller has found it to be one, and the span.
@@ -41,5 +38,5 @@ pub fn block(
     let mut buf: [u16; 16] = [0; 16];
     read_span(key, group, memory, pages, from, &mut buf);
     stores::store_words(key, group, regs, memory, pages, n, &buf);
-    operation::rearrange(core, regs, n, &buf)
+    rearrange(core, regs, n, &buf)
 }

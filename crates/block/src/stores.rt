@@ -11,7 +11,7 @@ ghost use Rattle.isa.specs.Accesses.{movedSpan, pushedSpan, writesOf};
 ghost use Rattle.isa.specs.Effects.{Context};
 ghost use Rattle.isa.specs.Blocks.{movedWord, pushedWord, pushedFrom};
 ghost use Rattle.isa.specs.Execute.{executed};
-ghost use Rattle.block.specs.Operation.{isBlock};
+ghost use Rattle.rearrange.specs.Operation.{isBlock};
 use access::fields::field_a;
 use access::fields::field_b;
 use access::fields::get;

@@ -16,7 +16,7 @@ use Rattle.machine.specs.State.{keyOf, groupOf}
 use Rattle.machine.specs.Instructions.{both}
 use Rattle.isa.specs.Accesses.{readsOf, writesOf}
 use Rattle.isa.specs.Mil1750.{classOf}
-use Rattle.block.specs.Operation.{Finished}
+use Rattle.rearrange.specs.Operation.{Finished}
 
 -- the verdict on all accesses of the instruction n, from the state s, in the memory m through the page registers g
 abbrev pub verdict : State → List ℕ → List ℕ → Instruction → Verdict

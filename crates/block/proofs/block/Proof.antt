@@ -12,7 +12,7 @@ use Rattle.block.proofs.block.Statement.{statement}
 use Rattle.block.proofs.block.Tie as tie
 use Rattle.block.proofs.block.Reads as reads
 use Rattle.block.proofs.block.Lts as lts
-use Rattle.block.proofs.operation.rearrange.Reads as rearrange-reads
+use Rattle.rearrange.proofs.operation.rearrange.Reads as rearrange-reads
 use Rattle.block.proofs.stores.store_words.Reads as store-words-reads
 use Rattle.page.proofs.read.read_span.Reads as read-span-reads
 

@@ -3,7 +3,7 @@ use mathlib.Core.Path.{_≡_, refl, sym, ap, _∙_}
 use Rattle.clock.specs.Later.{later}
 use Rattle.moved.proofs.ActLaws.{carried-clear}
 use Rattle.instruct.proofs.UserLaws.{became-worked, block-user, settled-by}
-use Rattle.block.proofs.HereLaws.{attempt-done, attempt-left}
+use Rattle.one_page.proofs.HereLaws.{attempt-done, attempt-left}
 use Rattle.machine.specs.State.{joined}
 use Rattle.machine.specs.Instructions.{operated}
 use Rattle.isa.specs.Mil1750.{mil1750, contextOf}
@@ -12,7 +12,7 @@ use Rattle.instruct.proofs.carry_block.Statement.{statement}
 use Rattle.instruct.proofs.carry_block.Tie as tie
 use Rattle.instruct.proofs.carry_block.Reads as reads
 use Rattle.instruct.proofs.carry_block.Lts as lts
-use Rattle.block.proofs.here.try_block.Reads as try-block-reads
+use Rattle.one_page.proofs.here.try_block.Reads as try-block-reads
 use Rattle.instruct.proofs.carry_words.Reads as carry-words-reads
 use Rattle.moved.proofs.weighed.Reads as weighed-reads
 

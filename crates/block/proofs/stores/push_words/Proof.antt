@@ -4,7 +4,7 @@ use native.Mathlib.Omega.{arith}
 use Prim.Native.Nat.{ℕ, _+_, _-_, _%_, _≤_, _<_}
 use lib.ListN.{length, length-set, getD, take, drop}
 use Rattle.isa.specs.Blocks.{pushedWord}
-use Rattle.block.proofs.BlockLaws.{pushed-at, one-more}
+use Rattle.rearrange.proofs.BlockLaws.{pushed-at, one-more}
 use borrow.Author.Needs.{needs}
 use Rattle.block.proofs.stores.push_words.Statement.{statement}
 use Rattle.block.proofs.stores.push_words.Tie as tie

@@ -1,6 +1,6 @@
 -- `block::stores::store_moved` meets its contract. Assumes nothing.
 use mathlib.Core.Path.{_≡_, refl, sym, ap, _∙_}
-use Rattle.block.proofs.BlockLaws.{moved-written}
+use Rattle.rearrange.proofs.BlockLaws.{moved-written}
 use borrow.Author.Needs.{needs}
 use Rattle.block.proofs.stores.store_moved.Statement.{statement}
 use Rattle.block.proofs.stores.store_moved.Tie as tie

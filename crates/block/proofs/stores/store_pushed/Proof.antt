@@ -1,6 +1,6 @@
 -- `block::stores::store_pushed` meets its contract. Assumes nothing.
 use mathlib.Core.Path.{_≡_, refl, sym, ap, _∙_}
-use Rattle.block.proofs.BlockLaws.{written-agree}
+use Rattle.rearrange.proofs.BlockLaws.{written-agree}
 use Rattle.isa.specs.Accesses.{pushedSpan}
 use borrow.Author.Needs.{needs}
 use Rattle.block.proofs.stores.store_pushed.Statement.{statement}

@@ -3,10 +3,10 @@ use mathlib.Core.Path.{_≡_, refl, sym, ap, _∙_}
 use mathlib.Core.List.{List, [], _∷_}
 use mathlib.Core.Bool.{true, false, false≢true}
 use Rattle.choice.proofs.SelectLaws.{otherwise}
-use Rattle.block.proofs.BlockLaws.{operand-unwritten}
+use Rattle.rearrange.proofs.BlockLaws.{operand-unwritten}
 use Rattle.isa.specs.Accesses.{wordsWritten}
 use Rattle.isa.specs.Blocks.{rearranged, storedAll, pushedAll}
-use Rattle.block.specs.Operation.{isBlock}
+use Rattle.rearrange.specs.Operation.{isBlock}
 use Prim.Native.Nat.{ℕ, _+_, _-_, _%_, _≤_, _<_}
 use Rattle.isa.specs.Accesses.{writesOf}
 use Rattle.isa.specs.Execute.{executed}

@@ -1,3 +1,0 @@
--- The laws of the operations on blocks.
-pub mod BlockLaws
-pub mod HereLaws

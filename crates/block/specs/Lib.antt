@@ -1,3 +1,0 @@
--- The definitions of the operations on blocks' code.
-pub mod Operation
-pub mod Rows

@@ -1,0 +1,2 @@
+-- The laws of operations on blocks in one page.
+pub mod HereLaws

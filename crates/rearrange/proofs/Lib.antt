@@ -1,0 +1,2 @@
+-- The laws of the operations on blocks.
+pub mod BlockLaws

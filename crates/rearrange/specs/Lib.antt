@@ -1,0 +1,2 @@
+-- The definitions of the operations on blocks' code.
+pub mod Operation
