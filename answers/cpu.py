@@ -107,7 +107,7 @@ A = {
         returns='(λ lag ports. rw (@unsettled .ensures .1, @unsettled .ensures .0, ← lst-carried %s (@if1 .taken)) (lst-became lag (@args .core) (@load-status .result) %s (@args .memory .now) (@args .pages .now) ports _ _ _ (@load-status .ensures %s)), '
             'unsettled-lasting _ _ (@unsettled .ensures .2) (λ h. rw (@unsettled .ensures .0) (status-time _ _ %s _ _ _ (@load-status .ensures %s))))' % (LOADED, REGS, REGS, REGS, REGS),
         returns_2='(λ lag ports. rw (@deny .ensures .0, ← lst-denied %s (@if1 .left), ← @advance .ensures) (%s), %s)' % (LOADED, failed('ports', 'lag'), LASTS)),
-    'act/carry_system': by(use=[LATER, OMEGA, SYSTEM + '{xio-carried, bex-carried}', TIME + '{unsettled-lasting, call-unseen}', STATE + '{joined}', 'Rattle.direct.proofs.WayLaws.{way-most}'],
+    'act/carry_system': by(use=[LATER, OMEGA, SYSTEM + '{xio-carried, bex-carried}', TIME + '{unsettled-lasting, call-unseen}', STATE + '{joined}', 'Rattle.accumulate.proofs.WayLaws.{way-most}'],
         command_requires='(@Start .pre .0, @Start .pre .1, @Start .pre .5)',
         load_requires='(@Start .pre .0, @Start .pre .2, @Start .pre .3, @Start .pre .4, omega (arith, @Start .pre .6, @Start .pre .7, @if1 .left, @if2 .left, way-most (@args .n .form)))',
         returns='(rw (← xio-carried %s %s (@args .n) (sym (@Start .pre .6) ∙ @if1 .taken)) (@command .ensures .0 (@args .memory .now)), @command .ensures .1)' % (JOINED, LISTS),

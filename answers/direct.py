@@ -6,12 +6,12 @@ OTHERWISE = 'Rattle.choice.proofs.SelectLaws.{otherwise}'
 OMEGA = 'native.Mathlib.Omega.{arith}'
 STATE = 'Rattle.machine.specs.State.'
 STEP = 'Rattle.machine.specs.Step.'
-WAYS = 'Rattle.direct.specs.Ways.'
+WAYS = 'Rattle.accumulate.specs.Ways.'
 FIXED = 'Rattle.fixed.specs.Fixed.'
 ISA = 'Rattle.isa.specs.Mil1750.'
 ACCESSES = 'Rattle.isa.specs.Accesses.'
-WAY_LAWS = 'Rattle.direct.proofs.WayLaws.'
-END_LAWS = 'Rattle.direct.proofs.EndLaws.'
+WAY_LAWS = 'Rattle.accumulate.proofs.WayLaws.'
+END_LAWS = 'Rattle.accumulate.proofs.EndLaws.'
 
 
 # a function and the definitions, each `place names ..`, that its returns unfold

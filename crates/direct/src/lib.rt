@@ -6,28 +6,18 @@ ghost use lib.ListN.{length};
 ghost use Rattle.decode.specs.Forms.{operationOf};
 ghost use Rattle.machine.specs.State.{keyOf, groupOf, joined};
 ghost use Rattle.needs.specs.Needs.{wayOf};
-ghost use Rattle.direct.specs.Ended.{Ended};
+ghost use Rattle.accumulate.specs.Ended.{Ended};
 use crate::branch::branch;
-use crate::double::into_double;
-use crate::single::into_single;
 use crate::store::store_one;
 use crate::store::store_two;
+use accumulate::Ending;
+use accumulate::double::into_double;
+use accumulate::single::into_single;
 use machine::Core;
 use machine::Instruction;
 
 pub mod branch;
-pub mod double;
-pub mod finish;
-pub mod operand;
-pub mod single;
 pub mod store;
-
-// The core after an operation, where its accesses were clear; else the FT bit of the first refusal.
-pub struct Ending {
-    pub clear: bool,
-    pub fault: u16,
-    pub core: Core,
-}
 
 // The operation of the instruction n by its way, which is from 1 to 5.
 pub fn direct(

@@ -30,7 +30,7 @@ use Rattle.isa.specs.Execute.{ordinary, executed}
 use Rattle.isa.specs.Mil1750.{classOf, contextOf, mil1750}
 use Rattle.needs.specs.Needs.{exceptions, wayOf, needOf}
 use Rattle.needs.proofs.NeedsLaws.{told, untold, reads-span, writes-span, way-told}
-use Rattle.direct.proofs.WayLaws.{way-user}
+use Rattle.accumulate.proofs.WayLaws.{way-user}
 use Rattle.rearrange.specs.Operation.{isBlock, Worked}
 use Rattle.machine.proofs.StepLaws.{keeps-key, keeps-group}
 use Rattle.ordinary.specs.Gathers.{FirstThree}

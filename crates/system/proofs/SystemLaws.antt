@@ -27,8 +27,8 @@ use Rattle.needs.specs.Needs.{wayOf}
 use Rattle.command.specs.Outcome.{transferred}
 use Rattle.ordinary.specs.declared.Gathered.{Gathered}
 use Rattle.ordinary.specs.Gathers.{gathered}
-use Rattle.direct.proofs.WayLaws.{way-system, way-reads, way-writes}
-use Rattle.direct.proofs.EndLaws.{none-checked}
+use Rattle.accumulate.proofs.WayLaws.{way-system, way-reads, way-writes}
+use Rattle.accumulate.proofs.EndLaws.{none-checked}
 use Rattle.clock.specs.Later.{later}
 use Rattle.moved.proofs.ActLaws.{carried-clear, words-read, carried-read, carried-denied, accessed-clear}
 use Rattle.system.proofs.PrivilegedLaws.{status-unseen}

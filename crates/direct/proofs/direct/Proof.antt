@@ -7,8 +7,8 @@ use Rattle.direct.proofs.direct.Tie as tie
 use Rattle.direct.proofs.direct.Reads as reads
 use Rattle.direct.proofs.direct.Lts as lts
 use Rattle.direct.proofs.branch.branch.Reads as branch-reads
-use Rattle.direct.proofs.double.into_double.Reads as into-double-reads
-use Rattle.direct.proofs.single.into_single.Reads as into-single-reads
+use Rattle.accumulate.proofs.double.into_double.Reads as into-double-reads
+use Rattle.accumulate.proofs.single.into_single.Reads as into-single-reads
 use Rattle.direct.proofs.store.store_one.Reads as store-one-reads
 use Rattle.direct.proofs.store.store_two.Reads as store-two-reads
 

@@ -5,7 +5,7 @@ use native.Mathlib.Omega.{arith}
 use Rattle.system.proofs.SystemLaws.{xio-carried, bex-carried}
 use Rattle.moved.proofs.TimeLaws.{unsettled-lasting, call-unseen}
 use Rattle.machine.specs.State.{joined}
-use Rattle.direct.proofs.WayLaws.{way-most}
+use Rattle.accumulate.proofs.WayLaws.{way-most}
 use borrow.Author.Needs.{needs}
 use Rattle.system.proofs.carry_system.Statement.{statement}
 use Rattle.system.proofs.carry_system.Tie as tie

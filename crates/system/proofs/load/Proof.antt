@@ -14,7 +14,7 @@ use Rattle.system.proofs.load.Lts as lts
 use Rattle.command.proofs.parts.load_status.Reads as load-status-reads
 use Rattle.moved.proofs.deny.Reads as deny-reads
 use Rattle.moved.proofs.unsettled.Reads as unsettled-reads
-use Rattle.direct.proofs.operand.read_operand.Reads as read-operand-reads
+use Rattle.accumulate.proofs.operand.read_operand.Reads as read-operand-reads
 use Rattle.status.proofs.advance.Reads as advance-reads
 
 read-operand-requires : tie.Need-read-operand-requires

@@ -1,12 +1,12 @@
 -- `direct::branch::branch` meets its contract. Assumes nothing.
 use mathlib.Core.Path.{_≡_, refl, sym, ap, _∙_}
 use native.Mathlib.Omega.{arith}
-use Rattle.direct.proofs.WayLaws.{way-user, way-reads, way-writes, does-branch}
-use Rattle.direct.proofs.EndLaws.{idle-done}
+use Rattle.accumulate.proofs.WayLaws.{way-user, way-reads, way-writes, does-branch}
+use Rattle.accumulate.proofs.EndLaws.{idle-done}
 use mathlib.Core.Bool.{true, false, cond}
 use Rattle.machine.specs.State.{csOf, joined}
 use Rattle.isa.specs.Mil1750.{contextOf}
-use Rattle.direct.specs.Ways.{isTaken}
+use Rattle.accumulate.specs.Ways.{isTaken}
 use Rattle.isa.specs.Effects.{effect, jumped, following}
 use Rattle.isa.specs.Fields.{withRegisters}
 use Rattle.isa.specs.Addressing.{inMemory}
@@ -17,7 +17,7 @@ use Rattle.direct.proofs.branch.branch.Tie as tie
 use Rattle.direct.proofs.branch.branch.Reads as reads
 use Rattle.direct.proofs.branch.branch.Lts as lts
 use Rattle.direct.proofs.branch.is_taken.Reads as is-taken-reads
-use Rattle.direct.proofs.finish.done.Reads as done-reads
+use Rattle.accumulate.proofs.finish.done.Reads as done-reads
 use Rattle.effect.proofs.cs_of.Reads as cs-of-reads
 use Rattle.effect.proofs.following.Reads as following-reads
 

@@ -1,7 +1,7 @@
 -- `direct::branch::is_taken` meets its contract. Assumes nothing.
 use mathlib.Core.Path.{_≡_, refl, sym, ap, _∙_}
 use borrow.Author.Tests.{eq-eqb, ne-eqb}
-use Rattle.direct.specs.Ways.{isTaken}
+use Rattle.accumulate.specs.Ways.{isTaken}
 use borrow.Author.Needs.{needs}
 use Rattle.direct.proofs.branch.is_taken.Statement.{statement}
 use Rattle.direct.proofs.branch.is_taken.Tie as tie

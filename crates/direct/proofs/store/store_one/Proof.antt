@@ -1,12 +1,12 @@
 -- `direct::store::store_one` meets its contract. Assumes nothing.
 use mathlib.Core.Path.{_≡_, refl, sym, ap, _∙_}
 use native.Mathlib.Omega.{arith}
-use Rattle.direct.proofs.WayLaws.{way-user, way-reads, way-writes, does-store}
-use Rattle.direct.proofs.EndLaws.{store-done, store-refused, idle-done}
+use Rattle.accumulate.proofs.WayLaws.{way-user, way-reads, way-writes, does-store}
+use Rattle.accumulate.proofs.EndLaws.{store-done, store-refused, idle-done}
 use mathlib.Core.Bool.{false, cond}
 use Rattle.machine.specs.State.{joined}
 use Rattle.isa.specs.Mil1750.{contextOf}
-use Rattle.direct.specs.Ways.{wordStored}
+use Rattle.accumulate.specs.Ways.{wordStored}
 use Rattle.isa.specs.Effects.{effect, stored, following}
 use Rattle.isa.specs.Fields.{withRegisters}
 use Rattle.machine.specs.Machine.{spanFrom}
@@ -17,8 +17,8 @@ use Rattle.direct.proofs.store.store_one.Tie as tie
 use Rattle.direct.proofs.store.store_one.Reads as reads
 use Rattle.direct.proofs.store.store_one.Lts as lts
 use Rattle.access.proofs.addressing.in_memory.Reads as in-memory-reads
-use Rattle.direct.proofs.finish.done.Reads as done-reads
-use Rattle.direct.proofs.finish.refused.Reads as refused-reads
+use Rattle.accumulate.proofs.finish.done.Reads as done-reads
+use Rattle.accumulate.proofs.finish.refused.Reads as refused-reads
 use Rattle.direct.proofs.store.word_stored.Reads as word-stored-reads
 use Rattle.effect.proofs.cs_of.Reads as cs-of-reads
 use Rattle.effect.proofs.following.Reads as following-reads

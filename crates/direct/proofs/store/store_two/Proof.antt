@@ -2,8 +2,8 @@
 use mathlib.Core.Path.{_≡_, refl, sym, ap, _∙_}
 use native.Mathlib.Omega.{arith}
 use borrow.Author.Tests.{not-true, not-false}
-use Rattle.direct.proofs.WayLaws.{way-user, way-reads, way-writes, does-pair}
-use Rattle.direct.proofs.EndLaws.{pair-done, pair-refused, idle-done}
+use Rattle.accumulate.proofs.WayLaws.{way-user, way-reads, way-writes, does-pair}
+use Rattle.accumulate.proofs.EndLaws.{pair-done, pair-refused, idle-done}
 use mathlib.Core.Bool.{false, cond}
 use Rattle.machine.specs.State.{joined}
 use Rattle.isa.specs.Mil1750.{contextOf}
@@ -22,8 +22,8 @@ use Rattle.direct.proofs.store.store_two.Lts as lts
 use Rattle.access.proofs.addressing.accumulator_of.Reads as accumulator-of-reads
 use Rattle.access.proofs.addressing.in_memory.Reads as in-memory-reads
 use Rattle.access.proofs.fields.get.Reads as get-reads
-use Rattle.direct.proofs.finish.done.Reads as done-reads
-use Rattle.direct.proofs.finish.refused.Reads as refused-reads
+use Rattle.accumulate.proofs.finish.done.Reads as done-reads
+use Rattle.accumulate.proofs.finish.refused.Reads as refused-reads
 use Rattle.direct.proofs.store.put_two.Reads as put-two-reads
 use Rattle.effect.proofs.cs_of.Reads as cs-of-reads
 use Rattle.effect.proofs.following.Reads as following-reads

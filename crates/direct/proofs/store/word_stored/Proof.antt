@@ -1,7 +1,7 @@
 -- `direct::store::word_stored` meets its contract. Assumes nothing.
 use mathlib.Core.Path.{_≡_, refl, sym, ap, _∙_}
 use borrow.Author.Tests.{eq-eqb, ne-eqb}
-use Rattle.direct.specs.Ways.{wordStored}
+use Rattle.accumulate.specs.Ways.{wordStored}
 use borrow.Author.Needs.{needs}
 use Rattle.direct.proofs.store.word_stored.Statement.{statement}
 use Rattle.direct.proofs.store.word_stored.Tie as tie

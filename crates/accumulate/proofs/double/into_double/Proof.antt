@@ -1,8 +1,8 @@
--- `direct::double::into_double` meets its contract. Assumes nothing.
+-- `accumulate::double::into_double` meets its contract. Assumes nothing.
 use mathlib.Core.Path.{_≡_, refl, sym, ap, _∙_}
 use native.Mathlib.Omega.{arith}
-use Rattle.direct.proofs.WayLaws.{way-user, way-reads, way-writes, doubled, does-double}
-use Rattle.direct.proofs.EndLaws.{words-first, read-done, read-refused, double-after}
+use Rattle.accumulate.proofs.WayLaws.{way-user, way-reads, way-writes, doubled, does-double}
+use Rattle.accumulate.proofs.EndLaws.{words-first, read-done, read-refused, double-after}
 use Rattle.machine.specs.State.{joined}
 use Rattle.isa.specs.Mil1750.{contextOf}
 use Rattle.fixed.specs.Fixed.{double}
@@ -12,22 +12,22 @@ use Rattle.isa.specs.Effects.{fixedOverflow}
 use Rattle.isa.specs.Fields.{withRegister}
 use Rattle.isa.specs.Addressing.{accumulator}
 use Prim.Native.Nat.{_+_}
-use Rattle.direct.specs.Ways.{target}
+use Rattle.accumulate.specs.Ways.{target}
 use Rattle.word.specs.Pair.{highWord, lowWord}
 use Rattle.isa.specs.Words.{registerPair}
 use borrow.Author.Needs.{needs}
-use Rattle.direct.proofs.double.into_double.Statement.{statement}
-use Rattle.direct.proofs.double.into_double.Tie as tie
-use Rattle.direct.proofs.double.into_double.Reads as reads
-use Rattle.direct.proofs.double.into_double.Lts as lts
+use Rattle.accumulate.proofs.double.into_double.Statement.{statement}
+use Rattle.accumulate.proofs.double.into_double.Tie as tie
+use Rattle.accumulate.proofs.double.into_double.Reads as reads
+use Rattle.accumulate.proofs.double.into_double.Lts as lts
 use Rattle.access.proofs.addressing.double_operand.Reads as double-operand-reads
 use Rattle.access.proofs.fields.get.Reads as get-reads
 use Rattle.access.proofs.fields.put.Reads as put-reads
-use Rattle.direct.proofs.double.combine32.Reads as combine32-reads
-use Rattle.direct.proofs.double.target_of.Reads as target-of-reads
-use Rattle.direct.proofs.finish.done.Reads as done-reads
-use Rattle.direct.proofs.finish.refused.Reads as refused-reads
-use Rattle.direct.proofs.operand.read_operand.Reads as read-operand-reads
+use Rattle.accumulate.proofs.double.combine32.Reads as combine32-reads
+use Rattle.accumulate.proofs.double.target_of.Reads as target-of-reads
+use Rattle.accumulate.proofs.finish.done.Reads as done-reads
+use Rattle.accumulate.proofs.finish.refused.Reads as refused-reads
+use Rattle.accumulate.proofs.operand.read_operand.Reads as read-operand-reads
 use Rattle.effect.proofs.fixed_overflow.Reads as fixed-overflow-reads
 use Rattle.effect.proofs.following.Reads as following-reads
 use Rattle.word.proofs.pair.high.Reads as high-reads

@@ -1,12 +1,12 @@
--- `direct::double::plain32` meets its contract. Assumes nothing.
+-- `accumulate::double::plain32` meets its contract. Assumes nothing.
 use mathlib.Core.Path.{_≡_, refl, sym, ap, _∙_}
 use Rattle.fixed.specs.Fixed.{double}
-use Rattle.direct.specs.Ways.{plain}
+use Rattle.accumulate.specs.Ways.{plain}
 use borrow.Author.Needs.{needs}
-use Rattle.direct.proofs.double.plain32.Statement.{statement}
-use Rattle.direct.proofs.double.plain32.Tie as tie
-use Rattle.direct.proofs.double.plain32.Reads as reads
-use Rattle.direct.proofs.double.plain32.Lts as lts
+use Rattle.accumulate.proofs.double.plain32.Statement.{statement}
+use Rattle.accumulate.proofs.double.plain32.Tie as tie
+use Rattle.accumulate.proofs.double.plain32.Reads as reads
+use Rattle.accumulate.proofs.double.plain32.Lts as lts
 use Rattle.word.proofs.status.status32.Reads as status32-reads
 
 status32-requires : tie.Need-status32-requires

@@ -34,7 +34,7 @@ use Rattle.isa.specs.Mil1750.{classOf, contextOf}
 use Rattle.ordinary.specs.declared.Gathered.{Gathered}
 use Rattle.ordinary.specs.Gathers.{FirstThree, gathered}
 use Rattle.ordinary.proofs.OrdinaryLaws.{all-gathered, denied-gathered}
-use Rattle.direct.specs.Ended.{verdict, wordsRead, Ended}
+use Rattle.accumulate.specs.Ended.{verdict, wordsRead, Ended}
 
 -- ---- registers and core after an outcome
 

@@ -1,11 +1,11 @@
--- `direct::operand::read_operand` meets its contract. Assumes nothing.
+-- `accumulate::operand::read_operand` meets its contract. Assumes nothing.
 use mathlib.Core.Path.{_≡_, refl, sym, ap, _∙_}
 use Rattle.isa.specs.Accesses.{atOperand}
 use borrow.Author.Needs.{needs}
-use Rattle.direct.proofs.operand.read_operand.Statement.{statement}
-use Rattle.direct.proofs.operand.read_operand.Tie as tie
-use Rattle.direct.proofs.operand.read_operand.Reads as reads
-use Rattle.direct.proofs.operand.read_operand.Lts as lts
+use Rattle.accumulate.proofs.operand.read_operand.Statement.{statement}
+use Rattle.accumulate.proofs.operand.read_operand.Tie as tie
+use Rattle.accumulate.proofs.operand.read_operand.Reads as reads
+use Rattle.accumulate.proofs.operand.read_operand.Lts as lts
 use Rattle.access.proofs.addressing.in_memory.Reads as in-memory-reads
 use Rattle.ordinary.proofs.gather.Reads as gather-reads
 

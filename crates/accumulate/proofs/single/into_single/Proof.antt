@@ -1,8 +1,8 @@
--- `direct::single::into_single` meets its contract. Assumes nothing.
+-- `accumulate::single::into_single` meets its contract. Assumes nothing.
 use mathlib.Core.Path.{_≡_, refl, sym, ap, _∙_}
 use native.Mathlib.Omega.{arith}
-use Rattle.direct.proofs.WayLaws.{way-user, way-reads, way-writes, singled, does-single}
-use Rattle.direct.proofs.EndLaws.{words-first, read-done, read-refused, single-after}
+use Rattle.accumulate.proofs.WayLaws.{way-user, way-reads, way-writes, singled, does-single}
+use Rattle.accumulate.proofs.EndLaws.{words-first, read-done, read-refused, single-after}
 use Rattle.machine.specs.State.{joined}
 use Rattle.isa.specs.Mil1750.{contextOf}
 use Rattle.fixed.specs.Fixed.{single}
@@ -12,18 +12,18 @@ use Rattle.isa.specs.Effects.{fixedOverflow}
 use Rattle.isa.specs.Fields.{withRegister}
 use Rattle.isa.specs.Addressing.{accumulator}
 use borrow.Author.Needs.{needs}
-use Rattle.direct.proofs.single.into_single.Statement.{statement}
-use Rattle.direct.proofs.single.into_single.Tie as tie
-use Rattle.direct.proofs.single.into_single.Reads as reads
-use Rattle.direct.proofs.single.into_single.Lts as lts
+use Rattle.accumulate.proofs.single.into_single.Statement.{statement}
+use Rattle.accumulate.proofs.single.into_single.Tie as tie
+use Rattle.accumulate.proofs.single.into_single.Reads as reads
+use Rattle.accumulate.proofs.single.into_single.Lts as lts
 use Rattle.access.proofs.addressing.accumulator_of.Reads as accumulator-of-reads
 use Rattle.access.proofs.addressing.operand_of.Reads as operand-of-reads
 use Rattle.access.proofs.fields.get.Reads as get-reads
 use Rattle.access.proofs.fields.put.Reads as put-reads
-use Rattle.direct.proofs.finish.done.Reads as done-reads
-use Rattle.direct.proofs.finish.refused.Reads as refused-reads
-use Rattle.direct.proofs.operand.read_operand.Reads as read-operand-reads
-use Rattle.direct.proofs.single.combine16.Reads as combine16-reads
+use Rattle.accumulate.proofs.finish.done.Reads as done-reads
+use Rattle.accumulate.proofs.finish.refused.Reads as refused-reads
+use Rattle.accumulate.proofs.operand.read_operand.Reads as read-operand-reads
+use Rattle.accumulate.proofs.single.combine16.Reads as combine16-reads
 use Rattle.effect.proofs.fixed_overflow.Reads as fixed-overflow-reads
 use Rattle.effect.proofs.following.Reads as following-reads
 

@@ -1,12 +1,12 @@
--- `direct::double::target_of` meets its contract. Assumes nothing.
+-- `accumulate::double::target_of` meets its contract. Assumes nothing.
 use mathlib.Core.Path.{_≡_, refl, sym, ap, _∙_}
 use borrow.Author.Tests.{eq-eqb, ne-eqb}
-use Rattle.direct.specs.Ways.{target}
+use Rattle.accumulate.specs.Ways.{target}
 use borrow.Author.Needs.{needs}
-use Rattle.direct.proofs.double.target_of.Statement.{statement}
-use Rattle.direct.proofs.double.target_of.Tie as tie
-use Rattle.direct.proofs.double.target_of.Reads as reads
-use Rattle.direct.proofs.double.target_of.Lts as lts
+use Rattle.accumulate.proofs.double.target_of.Statement.{statement}
+use Rattle.accumulate.proofs.double.target_of.Tie as tie
+use Rattle.accumulate.proofs.double.target_of.Reads as reads
+use Rattle.accumulate.proofs.double.target_of.Lts as lts
 use Rattle.access.proofs.addressing.accumulator_of.Reads as accumulator-of-reads
 use Rattle.access.proofs.fields.field_a.Reads as field-a-reads
 

@@ -1,12 +1,12 @@
--- `direct::single::plain16` meets its contract. Assumes nothing.
+-- `accumulate::single::plain16` meets its contract. Assumes nothing.
 use mathlib.Core.Path.{_≡_, refl, sym, ap, _∙_}
 use Rattle.fixed.specs.Fixed.{single}
-use Rattle.direct.specs.Ways.{plain}
+use Rattle.accumulate.specs.Ways.{plain}
 use borrow.Author.Needs.{needs}
-use Rattle.direct.proofs.single.plain16.Statement.{statement}
-use Rattle.direct.proofs.single.plain16.Tie as tie
-use Rattle.direct.proofs.single.plain16.Reads as reads
-use Rattle.direct.proofs.single.plain16.Lts as lts
+use Rattle.accumulate.proofs.single.plain16.Statement.{statement}
+use Rattle.accumulate.proofs.single.plain16.Tie as tie
+use Rattle.accumulate.proofs.single.plain16.Reads as reads
+use Rattle.accumulate.proofs.single.plain16.Lts as lts
 use Rattle.word.proofs.status.status16.Reads as status16-reads
 
 status16-requires : tie.Need-status16-requires

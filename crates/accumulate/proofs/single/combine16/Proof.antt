@@ -1,14 +1,14 @@
--- `direct::single::combine16` meets its contract. Assumes nothing.
+-- `accumulate::single::combine16` meets its contract. Assumes nothing.
 use mathlib.Core.Path.{_≡_, refl, sym, ap, _∙_}
 use mathlib.Core.List.{List, [], _∷_}
 use Rattle.choice.proofs.SelectLaws.{otherwise}
-use Rattle.direct.specs.Ways.{intoSingle}
+use Rattle.accumulate.specs.Ways.{intoSingle}
 use borrow.Author.Needs.{needs}
-use Rattle.direct.proofs.single.combine16.Statement.{statement}
-use Rattle.direct.proofs.single.combine16.Tie as tie
-use Rattle.direct.proofs.single.combine16.Reads as reads
-use Rattle.direct.proofs.single.combine16.Lts as lts
-use Rattle.direct.proofs.single.plain16.Reads as plain16-reads
+use Rattle.accumulate.proofs.single.combine16.Statement.{statement}
+use Rattle.accumulate.proofs.single.combine16.Tie as tie
+use Rattle.accumulate.proofs.single.combine16.Reads as reads
+use Rattle.accumulate.proofs.single.combine16.Lts as lts
+use Rattle.accumulate.proofs.single.plain16.Reads as plain16-reads
 use Rattle.fixed.proofs.sums.add16.Reads as add16-reads
 use Rattle.fixed.proofs.sums.sub16.Reads as sub16-reads
 use Rattle.word.proofs.logic.and.Reads as and-reads

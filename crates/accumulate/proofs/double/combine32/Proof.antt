@@ -1,14 +1,14 @@
--- `direct::double::combine32` meets its contract. Assumes nothing.
+-- `accumulate::double::combine32` meets its contract. Assumes nothing.
 use mathlib.Core.Path.{_≡_, refl, sym, ap, _∙_}
 use mathlib.Core.List.{List, [], _∷_}
 use Rattle.choice.proofs.SelectLaws.{otherwise}
-use Rattle.direct.specs.Ways.{intoDouble}
+use Rattle.accumulate.specs.Ways.{intoDouble}
 use borrow.Author.Needs.{needs}
-use Rattle.direct.proofs.double.combine32.Statement.{statement}
-use Rattle.direct.proofs.double.combine32.Tie as tie
-use Rattle.direct.proofs.double.combine32.Reads as reads
-use Rattle.direct.proofs.double.combine32.Lts as lts
-use Rattle.direct.proofs.double.plain32.Reads as plain32-reads
+use Rattle.accumulate.proofs.double.combine32.Statement.{statement}
+use Rattle.accumulate.proofs.double.combine32.Tie as tie
+use Rattle.accumulate.proofs.double.combine32.Reads as reads
+use Rattle.accumulate.proofs.double.combine32.Lts as lts
+use Rattle.accumulate.proofs.double.plain32.Reads as plain32-reads
 use Rattle.fixed.proofs.sums.add32.Reads as add32-reads
 use Rattle.fixed.proofs.sums.sub32.Reads as sub32-reads
 

@@ -27,7 +27,7 @@ use Rattle.isa.specs.Execute.{ordinary, executed}
 use Rattle.isa.specs.Mil1750.{classOf}
 use Rattle.needs.specs.Needs.{exceptions, wayOf, needOf}
 use Rattle.needs.proofs.NeedsLaws.{operand-read, operand-written}
-use Rattle.direct.specs.Ways.{plain, intoSingle, intoDouble, target, wordStored, isTaken}
+use Rattle.accumulate.specs.Ways.{plain, intoSingle, intoDouble, target, wordStored, isTaken}
 
 -- ---- the way of an operation
 

@@ -1,12 +1,12 @@
--- `direct::finish::done` meets its contract. Assumes nothing.
+-- `accumulate::finish::done` meets its contract. Assumes nothing.
 use mathlib.Core.Path.{_≡_, refl, sym, ap, _∙_}
 use Rattle.machine.specs.Step.{affected}
 use Rattle.machine.specs.State.{withPi, withSw, withIc, withRegs}
 use borrow.Author.Needs.{needs}
-use Rattle.direct.proofs.finish.done.Statement.{statement}
-use Rattle.direct.proofs.finish.done.Tie as tie
-use Rattle.direct.proofs.finish.done.Reads as reads
-use Rattle.direct.proofs.finish.done.Lts as lts
+use Rattle.accumulate.proofs.finish.done.Statement.{statement}
+use Rattle.accumulate.proofs.finish.done.Tie as tie
+use Rattle.accumulate.proofs.finish.done.Reads as reads
+use Rattle.accumulate.proofs.finish.done.Lts as lts
 use Rattle.status.proofs.with_cs.Reads as with-cs-reads
 
 with-cs-requires : tie.Need-with-cs-requires

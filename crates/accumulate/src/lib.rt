@@ -1,0 +1,15 @@
+// The most frequent operations that load the accumulator, carried out at once: one word (L A S OR AND) or two (DL DA DS). What they come to is what
+// the definitions of all operations say. Callers have 512 page registers; key and group are those of SW.
+pub mod double;
+pub mod finish;
+pub mod operand;
+pub mod single;
+
+use machine::Core;
+
+// The core after an operation, where its accesses were clear; else the FT bit of the first refusal.
+pub struct Ending {
+    pub clear: bool,
+    pub fault: u16,
+    pub core: Core,
+}
