@@ -1,3 +1,3 @@
--- The laws of steps and runs, and property 3 of this machine.
-pub mod StepLaws
+-- The laws of the questions before a run, and property 3 of this machine.
+pub mod AskLaws
 pub mod Isolated

@@ -3,7 +3,7 @@ use mathlib.Core.Path.{_≡_, refl, sym, ap, _∙_}
 use Rattle.machine.specs.Machine.{machine, Became}
 use Rattle.machine.specs.Runs.{numberOf, answerOf}
 use Rattle.isa.specs.Mil1750.{mil1750}
-use Rattle.cpu.proofs.StepLaws.{admitted}
+use Rattle.cpu.proofs.AskLaws.{admitted}
 use Rattle.machine.proofs.RunLaws.{spent-left, refused-left}
 use Rattle.machine.proofs.MachineLaws.{machine-became}
 use borrow.Author.Needs.{needs}

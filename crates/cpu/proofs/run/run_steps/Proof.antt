@@ -6,14 +6,14 @@ use Rattle.machine.specs.State.{joined}
 use Rattle.machine.specs.Machine.{machine}
 use Rattle.machine.specs.Runs.{steps}
 use Rattle.isa.specs.Mil1750.{mil1750}
-use Rattle.cpu.proofs.StepLaws.{steps-none}
+use Rattle.steps.proofs.StepLaws.{steps-none}
 use Rattle.machine.proofs.MachineLaws.{machine-became}
 use borrow.Author.Needs.{needs}
 use Rattle.cpu.proofs.run.run_steps.Statement.{statement}
 use Rattle.cpu.proofs.run.run_steps.Tie as tie
 use Rattle.cpu.proofs.run.run_steps.Reads as reads
 use Rattle.cpu.proofs.run.run_steps.Lts as lts
-use Rattle.cpu.proofs.run.go_on.Reads as go-on-reads
+use Rattle.steps.proofs.go_on.Reads as go-on-reads
 
 abbrev Inv-loop : tie.InvT-loop
 Inv-loop regs₀ memory₀ pages₀ ports₀ table needs n t₀ due₀ regs memory pages ports t due = (length memory ≡ length memory₀) × (length pages ≡ length pages₀) × (length ports ≡ length ports₀) × (steps mil1750 due₀ (machine (joined t₀ regs₀) memory₀ pages₀ ports₀) ≡ steps mil1750 due (machine (joined t regs) memory pages ports))

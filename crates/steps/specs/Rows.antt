@@ -10,7 +10,7 @@ use Rattle.machine.specs.Step.{ticked}
 use Rattle.machine.specs.Runs.{steps}
 use Rattle.isa.specs.Mil1750.{mil1750}
 use Rattle.moved.specs.declared.Moved.{Moved}
-use Rattle.cpu.specs.declared.run.Row.{Row}
+use Rattle.steps.specs.declared.Row.{Row}
 use Rattle.moved.specs.Settled.{SameTime, after}
 
 -- the row that ends with an instruction, after which n steps of the stretch are made

@@ -1,18 +1,18 @@
--- `cpu::run::turn` meets its contract. Assumes nothing.
+-- `steps::turn` meets its contract. Assumes nothing.
 use mathlib.Core.Path.{_≡_, refl, sym, ap, _∙_}
 use native.Mathlib.Omega.{arith}
 use Rattle.clock.specs.Later.{later}
-use Rattle.cpu.proofs.StepLaws.{entry-made}
+use Rattle.steps.proofs.StepLaws.{entry-made}
 use Rattle.machine.specs.State.{joined}
 use Rattle.machine.specs.Machine.{machine}
 use Rattle.isa.specs.Mil1750.{mil1750}
 use borrow.Author.Needs.{needs}
-use Rattle.cpu.proofs.run.turn.Statement.{statement}
-use Rattle.cpu.proofs.run.turn.Tie as tie
-use Rattle.cpu.proofs.run.turn.Reads as reads
-use Rattle.cpu.proofs.run.turn.Lts as lts
-use Rattle.cpu.proofs.run.interrupted.Reads as interrupted-reads
-use Rattle.cpu.proofs.run.obey.Reads as obey-reads
+use Rattle.steps.proofs.turn.Statement.{statement}
+use Rattle.steps.proofs.turn.Tie as tie
+use Rattle.steps.proofs.turn.Reads as reads
+use Rattle.steps.proofs.turn.Lts as lts
+use Rattle.steps.proofs.interrupted.Reads as interrupted-reads
+use Rattle.steps.proofs.obey.Reads as obey-reads
 use Rattle.interrupt.proofs.pending.choose.Reads as choose-reads
 
 choose-requires : tie.Need-choose-requires

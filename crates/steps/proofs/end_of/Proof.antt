@@ -1,11 +1,11 @@
--- `cpu::run::end_of` meets its contract. Assumes nothing.
+-- `steps::end_of` meets its contract. Assumes nothing.
 use mathlib.Core.Path.{_≡_, refl, sym, ap, _∙_}
 use native.Mathlib.Omega.{arith}
 use borrow.Author.Needs.{needs}
-use Rattle.cpu.proofs.run.end_of.Statement.{statement}
-use Rattle.cpu.proofs.run.end_of.Tie as tie
-use Rattle.cpu.proofs.run.end_of.Reads as reads
-use Rattle.cpu.proofs.run.end_of.Lts as lts
+use Rattle.steps.proofs.end_of.Statement.{statement}
+use Rattle.steps.proofs.end_of.Tie as tie
+use Rattle.steps.proofs.end_of.Reads as reads
+use Rattle.steps.proofs.end_of.Lts as lts
 
 add-result : tie.Need-add-result
 add-result c = search needs

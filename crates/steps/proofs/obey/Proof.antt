@@ -1,4 +1,4 @@
--- `cpu::run::obey` meets its contract. Assumes nothing.
+-- `steps::obey` meets its contract. Assumes nothing.
 use mathlib.Core.Path.{_≡_, refl, sym, ap, _∙_}
 use native.Mathlib.Omega.{arith}
 use borrow.Author.Tests.{eq-eqb, ne-eqb, le-leb, lt-leb, not-true, not-false}
@@ -12,15 +12,15 @@ use Rattle.clock.specs.Later.{Calm, later}
 use Rattle.clock.proofs.LaterLaws.{calm-fewer}
 use Rattle.moved.specs.Settled.{SameTime}
 use Rattle.moved.proofs.TimeLaws.{same-here, same-onward, calm-same}
-use Rattle.cpu.proofs.StepLaws.{going, row-made, row-on, sw-released, hold-released, time-released, later-released, chosen-released, chosen-later, chosen-settled}
+use Rattle.steps.proofs.StepLaws.{going, row-made, row-on, sw-released, hold-released, time-released, later-released, chosen-released, chosen-later, chosen-settled}
 use borrow.Author.Needs.{needs}
-use Rattle.cpu.proofs.run.obey.Statement.{statement}
-use Rattle.cpu.proofs.run.obey.Tie as tie
-use Rattle.cpu.proofs.run.obey.Reads as reads
-use Rattle.cpu.proofs.run.obey.Lts as lts
+use Rattle.steps.proofs.obey.Statement.{statement}
+use Rattle.steps.proofs.obey.Tie as tie
+use Rattle.steps.proofs.obey.Reads as reads
+use Rattle.steps.proofs.obey.Lts as lts
 use Rattle.instruct.proofs.instruct.Reads as instruct-reads
-use Rattle.cpu.proofs.run.end_of.Reads as end-of-reads
-use Rattle.cpu.proofs.run.ended.Reads as ended-reads
+use Rattle.steps.proofs.end_of.Reads as end-of-reads
+use Rattle.steps.proofs.ended.Reads as ended-reads
 use Rattle.status.proofs.group_of.Reads as group-of-reads
 use Rattle.status.proofs.key_of.Reads as key-of-reads
 use Rattle.clock.proofs.time.release.Reads as release-reads

@@ -1,4 +1,4 @@
--- `cpu::run::go_on` meets its contract. Assumes nothing.
+-- `steps::go_on` meets its contract. Assumes nothing.
 use mathlib.Core.Path.{_≡_, refl, sym, ap, _∙_}
 use native.Mathlib.Omega.{arith}
 use borrow.Author.Tests.{eq-eqb, ne-eqb, le-leb, lt-leb, not-true, not-false}
@@ -11,13 +11,13 @@ use Rattle.isa.specs.Mil1750.{mil1750}
 use Rattle.clock.specs.Later.{Calm, later}
 use Rattle.clock.proofs.LaterLaws.{calm-fewer}
 use Rattle.moved.proofs.TimeLaws.{calm-same}
-use Rattle.cpu.proofs.StepLaws.{stretch-start, stretch-cut, stretch-end, stretch-on}
+use Rattle.steps.proofs.StepLaws.{stretch-start, stretch-cut, stretch-end, stretch-on}
 use borrow.Author.Needs.{needs}
-use Rattle.cpu.proofs.run.go_on.Statement.{statement}
-use Rattle.cpu.proofs.run.go_on.Tie as tie
-use Rattle.cpu.proofs.run.go_on.Reads as reads
-use Rattle.cpu.proofs.run.go_on.Lts as lts
-use Rattle.cpu.proofs.run.turn.Reads as turn-reads
+use Rattle.steps.proofs.go_on.Statement.{statement}
+use Rattle.steps.proofs.go_on.Tie as tie
+use Rattle.steps.proofs.go_on.Reads as reads
+use Rattle.steps.proofs.go_on.Lts as lts
+use Rattle.steps.proofs.turn.Reads as turn-reads
 use Rattle.clock.proofs.later.quiet.Reads as quiet-reads
 use Rattle.clock.proofs.later.tick_by.Reads as tick-by-reads
 use Rattle.clock.proofs.time.tick.Reads as tick-reads

@@ -1,14 +1,14 @@
--- `cpu::run::interrupted` meets its contract. Assumes nothing.
+-- `steps::interrupted` meets its contract. Assumes nothing.
 use mathlib.Core.Path.{_≡_, refl, sym, ap, _∙_}
 use Rattle.entry.proofs.EntryLaws.{entered-by}
 use Rattle.machine.specs.State.{joined}
 use Rattle.moved.proofs.TimeLaws.{enter-unseen}
 use mathlib.Core.List.{[]}
 use borrow.Author.Needs.{needs}
-use Rattle.cpu.proofs.run.interrupted.Statement.{statement}
-use Rattle.cpu.proofs.run.interrupted.Tie as tie
-use Rattle.cpu.proofs.run.interrupted.Reads as reads
-use Rattle.cpu.proofs.run.interrupted.Lts as lts
+use Rattle.steps.proofs.interrupted.Statement.{statement}
+use Rattle.steps.proofs.interrupted.Tie as tie
+use Rattle.steps.proofs.interrupted.Reads as reads
+use Rattle.steps.proofs.interrupted.Lts as lts
 use Rattle.entry.proofs.arrive.Reads as arrive-reads
 use Rattle.entry.proofs.link.Reads as link-reads
 use Rattle.clock.proofs.time.release.Reads as release-reads

@@ -1,22 +1,19 @@
--- What a step does, its end, what stays over it, a run's steps by a turn, and what the questions before a run let through. Assumes nothing.
+-- What a step does, its end, what stays over it, and steps by rows. Assumes nothing.
 use Prim.Native.Nat.{ℕ, zero, suc, _+_, _-_, _≤_, _<_}
 use mathlib.Core.Path.{_≡_, refl, sym, ap, subst, _∙_}
 use mathlib.Core.Bool.{Bool, true, false}
 use mathlib.Core.List.{List, []}
 use native.Mathlib.Omega.{arith}
 use native.Mathlib.Numerals.{sub-one}
-use lib.Dec.{T, eqb→eq}
 use borrow.Author.Tests.{lt-ltb, le-ltb}
 use Rattle.machine.specs.declared.State.{State}
 use Rattle.machine.specs.declared.Core.{Core}
-use Rattle.machine.specs.declared.Answer.{Answer}
-use Rattle.machine.specs.declared.Answer.the-variants.{BadMemory, BadPages, BadPorts}
 use Rattle.machine.specs.State.{withHold, joined}
 use Rattle.machine.specs.Machine.{Machine, machine, Became, Isa}
 use Rattle.machine.specs.Instructions.{enter, view, instructed}
 use Rattle.machine.specs.Entries.{takeable, chosen}
 use Rattle.machine.specs.Step.{released, perform, begun, action, ticked, tick, step}
-use Rattle.machine.specs.Runs.{numberOf, asked, admission, steps}
+use Rattle.machine.specs.Runs.{steps}
 use Rattle.machine.proofs.MachineLaws.{became-machine}
 use Rattle.clock.specs.Later.{Calm, later}
 use Rattle.clock.proofs.LaterLaws.{ticked-later, later-none}
@@ -171,17 +168,3 @@ module _ (isa : Isa) (x y : Machine) (n from to : ℕ) (h : from < to) (i : to �
 pub stretch-start : (isa : Isa) (n z : ℕ) (s : State) (m g o : List ℕ) → z ≡ 0 → steps isa n (machine s m g o) ≡ steps isa (n - z) (machine (later z s) m g o)
 stretch-start isa n z s m g o e =
     ap (λ w. steps isa n (machine w m g o)) (sym (later-none s)) ∙ ap (λ k. steps isa n (machine (later k s) m g o)) (sym e) ∙ ap (λ k. steps isa k (machine (later z s) m g o)) (omega arith)
-
--- ---- the questions
-
-asked-yes : (out : Answer) (b : Bool) (rest : Answer) → (numberOf out ≡ 0 → ⊥) → numberOf (asked b out rest) ≡ 0 → T b × (numberOf rest ≡ 0)
-unfolding asked
-asked-yes out true rest h e = (tt, e)
-asked-yes out false rest h e = absurd (h e)
-
--- a run that is admitted has its page registers and ports
-pub admitted : (a b c d e : ℕ) → numberOf (admission a b c d e) ≡ 0 → (b ≡ 512) × (c ≡ 1024)
-unfolding admission numberOf
-admitted a b c d e h =
-    let p = asked-yes BadPages _ _ (λ k. omega arith) (asked-yes BadMemory _ _ (λ k. omega arith) h .1) in
-    (eqb→eq b 512 (p .0), eqb→eq c 1024 (asked-yes BadPorts _ _ (λ k. omega arith) (p .1) .0))
