@@ -2,6 +2,7 @@
 use Prim.Native.Nat.{ℕ}
 use mathlib.Core.Bool.{cond}
 use mathlib.Core.List.{List}
+use mathlib.Core.Path.{_≡_}
 use lib.Dec.{eqb, leb}
 use lib.ListN.{length}
 use Rattle.machine.specs.Machine.{Machine}
@@ -49,3 +50,13 @@ ranText x = unless (numberOf (answerOf x budget)) (reportOf budget (left mil1750
 -- the program: the length, the loader's questions, the run
 unfoldable pub printed : List ℕ → List ℕ
 printed b = unless (lengthNumber b) (unless (loadNumber b) (ranText (started b)))
+
+-- the machine after it, from the machine x that it holds: a refusal leaves that as it was
+unfoldable pub afterwards : List ℕ → Machine → Machine
+afterwards b x = cond (eqb (lengthNumber b) 0) (cond (eqb (loadNumber b) 0) (left mil1750 (started b) budget) x) x
+
+-- memory, page registers and ports are those of the machine x
+pub record Holds (x : Machine) (memory pages ports : List ℕ) : Type 0 where
+  pub memory-is : memory ≡ x .memory
+  pub pages-is : pages ≡ x .pages
+  pub ports-is : ports ≡ x .ports

@@ -1,7 +1,10 @@
 // What the program does between its input and its output: an image is loaded and run, and the text is made.
 ghost use Rattle.report.specs.Report.{Text};
-ghost use Rattle.rehearsal.specs.Printed.{printed, ranText};
+ghost use Rattle.machine.specs.declared.State.{State};
 ghost use Rattle.machine.specs.Machine.{machine};
+ghost use Rattle.machine.specs.Runs.{left};
+ghost use Rattle.isa.specs.Mil1750.{mil1750};
+ghost use Rattle.rehearsal.specs.Printed.{printed, ranText, afterwards, Holds};
 use machine::State;
 
 // A run of 1,000 steps, and its report.
@@ -12,7 +15,8 @@ fn run_and_report(
     ports: &mut [u16],
     out: &mut [u8; 256],
 ) -> usize
-    ensures { λ r. ⌜ Text (ranText (machine s (now (memory .entry)) (now (pages .entry)) (now (ports .entry)))) (now (out .exit)) r ⌝ }
+    ensures { λ r. ⌜ Text (ranText (machine s (now (memory .entry)) (now (pages .entry)) (now (ports .entry)))) (now (out .exit)) r
+        × Holds (left mil1750 (machine s (now (memory .entry)) (now (pages .entry)) (now (ports .entry))) 1000) (now (memory .exit)) (now (pages .exit)) (now (ports .exit)) ⌝ }
 {
     let ran = cpu::run::run(s, memory, pages, ports, 1000);
     let answer = ran.answer;
@@ -24,7 +28,26 @@ fn run_and_report(
     report::report(1000, left, out)
 }
 
-// The program's text for an input, on the memory, page registers and ports that it holds, whatever they contain.
+// A state to load on: an accepted image replaces it, and after a refusal nobody looks at it.
+fn given() -> State {
+    State {
+        regs: [0; 16],
+        ic: 0,
+        sw: 0,
+        mk: 0,
+        pi: 0,
+        ft: 0,
+        enabled: false,
+        hold: false,
+        ta: 0,
+        tb: 0,
+        taon: false,
+        tbon: false,
+        count: 0,
+    }
+}
+
+// The program's text for an input, on the memory, page registers and ports that it holds, whatever they contain; a refusal leaves them.
 pub fn rehearse(
     input: &[u8],
     memory: &mut [u16; 16384],
@@ -32,13 +55,14 @@ pub fn rehearse(
     ports: &mut [u16; 1024],
     out: &mut [u8; 256],
 ) -> usize
-    ensures { λ r. ⌜ Text (printed (now (input .entry))) (now (out .exit)) r ⌝ }
+    ensures { λ r. ⌜ Text (printed (now (input .entry))) (now (out .exit)) r
+        × ((s : State) → Holds (afterwards (now (input .entry)) (machine s (now (memory .entry)) (now (pages .entry)) (now (ports .entry))))
+        (now (memory .exit)) (now (pages .exit)) (now (ports .exit))) ⌝ }
 {
     if 32768 < input.len() {
         return report::refusal(13, out);
     }
-    let fresh = reset::reset(memory, pages, ports);
-    let loaded = loader::load(fresh, input, memory, pages, ports);
+    let loaded = loader::load(given(), input, memory, pages, ports);
     let answer = loaded.answer;
     let refused = image::door::number(answer) as u32;
     if refused != 0 {

@@ -1,7 +1,7 @@
 -- `rehearsal::rehearse` meets its contract. Assumes nothing.
 use mathlib.Core.Path.{_≡_, refl, sym, ap, _∙_}
 use native.Mathlib.Omega.{arith}
-use Rattle.rehearsal.proofs.PrintedLaws.{too-long, refused, accepted, number-is, machine-is}
+use Rattle.rehearsal.proofs.PrintedLaws.{holds-own, holds-lists, too-long, too-long-left, refused, refused-left, accepted, accepted-left, number-is, machine-is, kept}
 use borrow.Author.Needs.{needs}
 use Rattle.rehearsal.proofs.rehearse.Statement.{statement}
 use Rattle.rehearsal.proofs.rehearse.Tie as tie
@@ -9,7 +9,7 @@ use Rattle.rehearsal.proofs.rehearse.Reads as reads
 use Rattle.rehearsal.proofs.rehearse.Lts as lts
 use Rattle.image.proofs.door.number.Reads as number-reads
 use Rattle.loader.proofs.load.Reads as load-reads
-use Rattle.reset.proofs.reset.Reads as reset-reads
+use Rattle.rehearsal.proofs.given.Reads as given-reads
 use Rattle.rehearsal.proofs.run_and_report.Reads as run-and-report-reads
 use Rattle.report.proofs.refusal.Reads as refusal-reads
 
@@ -17,10 +17,10 @@ refusal-requires : tie.Need-refusal-requires
 refusal-requires c κs = search needs
 
 returns : tie.Need-returns
-returns c = rw (too-long _ (c .before .before .if1 .taken)) (c .refusal .ensures)
+returns c = (rw (too-long _ (c .before .before .if1 .taken)) (c .refusal .ensures), λ s. holds-own _ _ (too-long-left _ _ (c .before .before .if1 .taken)))
 
-reset-requires : tie.Need-reset-requires
-reset-requires c κs = search needs
+given-requires : tie.Need-given-requires
+given-requires c κs = search needs
 
 load-requires : tie.Need-load-requires
 load-requires c κs = search needs
@@ -35,13 +35,13 @@ refusal-requires-2 : tie.Need-refusal-requires-2
 refusal-requires-2 c κs = search needs
 
 returns-2 : tie.Need-returns-2
-returns-2 c = rw (refused _ _ (c .before .before .before .before .before .before .before .before .before .before .before .before .if1 .left) (number-is _ _ (omega (arith, c .before .before .before .before .before .before .before .load-arg .given)) (omega (arith, c .before .before .before .before .before .before .load-arg2 .given)) (omega (arith, c .before .before .before .before .before .load-arg3 .given)) _ _ (c .before .before .before .number .ensures) (c .before .before .before .before .load .ensures .answer-is)) (c .before .before .if2 .taken)) (c .refusal2 .ensures)
+returns-2 c = (rw (refused _ _ (c .before .before .before .before .before .before .before .before .before .if1 .left) (number-is _ _ (omega (arith, c .before .before .before .before .before .before .before .load-arg .given)) (omega (arith, c .before .before .before .before .before .before .load-arg2 .given)) (omega (arith, c .before .before .before .before .before .load-arg3 .given)) _ _ (c .before .before .before .number .ensures) (c .before .before .before .before .load .ensures .answer-is)) (c .before .before .if2 .taken)) (c .refusal2 .ensures), λ s. rw (refused-left _ _ _ (c .before .before .before .before .before .before .before .before .before .if1 .left) (number-is _ _ (omega (arith, c .before .before .before .before .before .before .before .load-arg .given)) (omega (arith, c .before .before .before .before .before .before .load-arg2 .given)) (omega (arith, c .before .before .before .before .before .load-arg3 .given)) _ _ (c .before .before .before .number .ensures) (c .before .before .before .before .load .ensures .answer-is)) (c .before .before .if2 .taken)) (holds-lists (kept _ _ (omega (arith, c .before .before .before .before .before .before .before .load-arg .given)) (omega (arith, c .before .before .before .before .before .before .load-arg2 .given)) (omega (arith, c .before .before .before .before .before .load-arg3 .given)) _ _ _ _ _ _ (c .before .before .before .number .ensures) (c .before .before .if2 .taken) (c .before .before .before .before .load .ensures))))
 
 run-and-report-requires : tie.Need-run-and-report-requires
 run-and-report-requires c κs = search needs
 
 returns-3 : tie.Need-returns-3
-returns-3 c = rw (accepted _ _ (c .before .before .before .before .before .before .before .before .before .before .before .before .before .before .before .before .if1 .left) (number-is _ _ (omega (arith, c .before .before .before .before .before .before .before .before .before .before .before .load-arg .given)) (omega (arith, c .before .before .before .before .before .before .before .before .before .before .load-arg2 .given)) (omega (arith, c .before .before .before .before .before .before .before .before .before .load-arg3 .given)) _ _ (c .before .before .before .before .before .before .before .number .ensures) (c .before .before .before .before .before .before .before .before .load .ensures .answer-is)) (c .before .before .before .before .before .before .if2 .left), ← machine-is _ _ (omega (arith, c .before .before .before .before .before .before .before .before .before .before .before .load-arg .given)) (omega (arith, c .before .before .before .before .before .before .before .before .before .before .load-arg2 .given)) (omega (arith, c .before .before .before .before .before .before .before .before .before .load-arg3 .given)) _ _ _ _ _ _ (c .before .before .before .before .before .before .before .number .ensures) (c .before .before .before .before .before .before .if2 .left) (c .before .before .before .before .before .before .before .before .load .ensures)) (c .run-and-report .ensures)
+returns-3 c = (rw (accepted _ _ (c .before .before .before .before .before .before .before .before .before .before .before .before .before .if1 .left) (number-is _ _ (omega (arith, c .before .before .before .before .before .before .before .before .before .before .before .load-arg .given)) (omega (arith, c .before .before .before .before .before .before .before .before .before .before .load-arg2 .given)) (omega (arith, c .before .before .before .before .before .before .before .before .before .load-arg3 .given)) _ _ (c .before .before .before .before .before .before .before .number .ensures) (c .before .before .before .before .before .before .before .before .load .ensures .answer-is)) (c .before .before .before .before .before .before .if2 .left), ← machine-is _ _ (omega (arith, c .before .before .before .before .before .before .before .before .before .before .before .load-arg .given)) (omega (arith, c .before .before .before .before .before .before .before .before .before .before .load-arg2 .given)) (omega (arith, c .before .before .before .before .before .before .before .before .before .load-arg3 .given)) _ _ _ _ _ _ (c .before .before .before .before .before .before .before .number .ensures) (c .before .before .before .before .before .before .if2 .left) (c .before .before .before .before .before .before .before .before .load .ensures)) (c .run-and-report .ensures .0), λ s. rw (accepted-left _ _ _ (c .before .before .before .before .before .before .before .before .before .before .before .before .before .if1 .left) (number-is _ _ (omega (arith, c .before .before .before .before .before .before .before .before .before .before .before .load-arg .given)) (omega (arith, c .before .before .before .before .before .before .before .before .before .before .load-arg2 .given)) (omega (arith, c .before .before .before .before .before .before .before .before .before .load-arg3 .given)) _ _ (c .before .before .before .before .before .before .before .number .ensures) (c .before .before .before .before .before .before .before .before .load .ensures .answer-is)) (c .before .before .before .before .before .before .if2 .left), ← machine-is _ _ (omega (arith, c .before .before .before .before .before .before .before .before .before .before .before .load-arg .given)) (omega (arith, c .before .before .before .before .before .before .before .before .before .before .load-arg2 .given)) (omega (arith, c .before .before .before .before .before .before .before .before .before .load-arg3 .given)) _ _ _ _ _ _ (c .before .before .before .before .before .before .before .number .ensures) (c .before .before .before .before .before .before .if2 .left) (c .before .before .before .before .before .before .before .before .load .ensures)) (c .run-and-report .ensures .1))
 
 pub rehearse-spec : {M : Type 1} → statement M
 rehearse-spec =
@@ -49,7 +49,7 @@ rehearse-spec =
     (tie.spec
     refusal-requires
     returns
-    reset-requires
+    given-requires
     load-requires
     number-requires
     cast-refused

@@ -2,6 +2,7 @@
 use mathlib.Core.Path.{_≡_, refl, sym, ap, _∙_}
 use borrow.Author.Tests.{eq-eqb, ne-eqb}
 use Rattle.rehearsal.specs.Printed.{unless, ranText}
+use Rattle.rehearsal.proofs.PrintedLaws.{holds-became}
 use borrow.Author.Needs.{needs}
 use Rattle.rehearsal.proofs.run_and_report.Statement.{statement}
 use Rattle.rehearsal.proofs.run_and_report.Tie as tie
@@ -35,7 +36,7 @@ same-length-3 c = search needs
 
 returns : tie.Need-returns
 unfolding unless ranText
-returns c = rw (← c .before .before .before .before .before .before .before .before .before .before .run .ensures .0, ← c .before .before .before .number .ensures, ne-eqb _ _ (c .before .before .if1 .taken)) (c .refusal .ensures)
+returns c = (rw (← c .before .before .before .before .before .before .before .before .before .before .run .ensures .0, ← c .before .before .before .number .ensures, ne-eqb _ _ (c .before .before .if1 .taken)) (c .refusal .ensures), holds-became _ _ (c .before .before .before .before .before .before .before .before .before .before .run .ensures .1) refl)
 
 report-requires : tie.Need-report-requires
 report-requires c κs = search needs
@@ -51,7 +52,7 @@ same-length-6 c = search needs
 
 returns-2 : tie.Need-returns-2
 unfolding unless ranText
-returns-2 c = rw (← c .before .before .before .before .before .before .before .before .before .before .before .run .ensures .0, ← c .before .before .before .before .number .ensures, eq-eqb _ _ (c .before .before .before .if1 .left), ← c .before .before .before .before .before .before .before .before .before .before .before .run .ensures .1 .state-is) (c .report .ensures)
+returns-2 c = (rw (← c .before .before .before .before .before .before .before .before .before .before .before .run .ensures .0, ← c .before .before .before .before .number .ensures, eq-eqb _ _ (c .before .before .before .if1 .left), ← c .before .before .before .before .before .before .before .before .before .before .before .run .ensures .1 .state-is) (c .report .ensures), holds-became _ _ (c .before .before .before .before .before .before .before .before .before .before .before .run .ensures .1) refl)
 
 pub run-and-report-spec : {M : Type 1} → statement M
 run-and-report-spec =
