@@ -5,6 +5,7 @@ ghost use Prim.Native.Nat.{ℕ, _≤_, _/_, _%_};
 ghost use Rattle.decode.specs.Forms.{operationOf};
 ghost use Rattle.isa.specs.Accesses.{readsOf, writesOf};
 ghost use Rattle.needs.specs.Needs.{needOf, allNeeds};
+
 mod numbers;
 
 use crate::numbers::NEEDS;
