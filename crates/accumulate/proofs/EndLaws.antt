@@ -31,9 +31,9 @@ use Rattle.isa.specs.Effects.{following, fixedOverflow, three, effect, result}
 use Rattle.isa.specs.Integers.{singleOutcome, doubleOutcome}
 use Rattle.isa.specs.Execute.{executed}
 use Rattle.isa.specs.Mil1750.{classOf, contextOf}
-use Rattle.ordinary.specs.declared.Gathered.{Gathered}
-use Rattle.ordinary.specs.Gathers.{FirstThree, gathered}
-use Rattle.ordinary.proofs.OrdinaryLaws.{all-gathered, denied-gathered}
+use Rattle.gather.specs.declared.Gathered.{Gathered}
+use Rattle.gather.specs.Gathers.{FirstThree, gathered}
+use Rattle.gather.proofs.GatherLaws.{all-gathered, denied-gathered}
 use Rattle.accumulate.specs.Ended.{verdict, wordsRead, Ended}
 
 -- ---- registers and core after an outcome

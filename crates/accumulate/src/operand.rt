@@ -4,11 +4,11 @@ ghost use Prim.Native.Nat.{_<_, _≤_};
 ghost use lib.ListN.{length};
 ghost use Rattle.page.specs.Spans.{checked, wordsOf};
 ghost use Rattle.isa.specs.Accesses.{atOperand};
-ghost use Rattle.ordinary.specs.Gathers.{gathered};
+ghost use Rattle.gather.specs.Gathers.{gathered};
 use access::addressing::in_memory;
+use gather::Gathered;
+use gather::gather;
 use machine::Instruction;
-use ordinary::Gathered;
-use ordinary::gather;
 use page::Access;
 
 // k words at the derived address, checked and read, and none where the mode has its operand elsewhere.

@@ -33,7 +33,7 @@ use Rattle.needs.proofs.NeedsLaws.{told, untold, reads-span, writes-span, way-t
 use Rattle.accumulate.proofs.WayLaws.{way-user}
 use Rattle.rearrange.specs.Operation.{isBlock, Worked}
 use Rattle.machine.proofs.StepLaws.{keeps-key, keeps-group}
-use Rattle.ordinary.specs.Gathers.{FirstThree}
+use Rattle.gather.specs.Gathers.{FirstThree}
 use Rattle.clock.specs.Later.{later}
 use Rattle.moved.specs.declared.Moved.{Moved}
 use Rattle.moved.specs.Settled.{Lasting}

@@ -19,9 +19,9 @@ use Rattle.machine.specs.Instructions.{fail, view, both, operated, accessed, ca
 use Rattle.machine.specs.Step.{faulted, perform}
 use Rattle.isa.specs.Accesses.{readsOf, writesOf}
 use Rattle.isa.specs.Mil1750.{classOf, mil1750}
-use Rattle.ordinary.specs.declared.Gathered.{Gathered}
-use Rattle.ordinary.specs.Gathers.{FirstThree, gathered}
-use Rattle.ordinary.proofs.OrdinaryLaws.{all-gathered, denied-gathered}
+use Rattle.gather.specs.declared.Gathered.{Gathered}
+use Rattle.gather.specs.Gathers.{FirstThree, gathered}
+use Rattle.gather.proofs.GatherLaws.{all-gathered, denied-gathered}
 
 -- ---- the verdict on the accesses of a ready instruction
 

@@ -1,2 +1,2 @@
--- The laws of operations on at most three words.
+-- The laws of the choice of an operation.
 pub mod OrdinaryLaws

@@ -25,8 +25,8 @@ use Rattle.isa.specs.Commands.{becomes, statusLoaded, supervisedBy}
 use Rattle.isa.specs.Mil1750.{classOf, mil1750}
 use Rattle.needs.specs.Needs.{wayOf}
 use Rattle.command.specs.Outcome.{transferred}
-use Rattle.ordinary.specs.declared.Gathered.{Gathered}
-use Rattle.ordinary.specs.Gathers.{gathered}
+use Rattle.gather.specs.declared.Gathered.{Gathered}
+use Rattle.gather.specs.Gathers.{gathered}
 use Rattle.accumulate.proofs.WayLaws.{way-system, way-reads, way-writes}
 use Rattle.accumulate.proofs.EndLaws.{none-checked}
 use Rattle.clock.specs.Later.{later}

@@ -19,7 +19,7 @@ use Rattle.system.proofs.carry_system.Reads as carry-system-reads
 use Rattle.moved.proofs.deny.Reads as deny-reads
 use Rattle.instruct.proofs.proceed.Reads as proceed-reads
 use Rattle.status.proofs.advance.Reads as advance-reads
-use Rattle.ordinary.proofs.gather.Reads as gather-reads
+use Rattle.gather.proofs.gather.Reads as gather-reads
 
 carry-system-requires : tie.Need-carry-system-requires
 carry-system-requires c κs = (c .before .before .before .before .before .before .before .before .pre .0, c .before .before .before .before .before .before .before .before .pre .1, c .before .before .before .before .before .before .before .before .pre .2, c .before .before .before .before .before .before .before .before .pre .3, c .before .before .before .before .before .before .before .before .pre .4, c .before .before .before .before .before .before .before .before .pre .5, way-told (c .before .before .before .before .before .before .before .before .args .n .form) (c .before .before .before .before .before .before .before .before .args .need) (c .before .before .before .before .before .before .before .before .pre .6), omega (arith, c .before .before .before .before .if1 .taken))

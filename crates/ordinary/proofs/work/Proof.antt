@@ -12,7 +12,7 @@ use Rattle.ordinary.proofs.work.Lts as lts
 use Rattle.effect.proofs.apply.Reads as apply-reads
 use Rattle.status.proofs.with_cs.Reads as with-cs-reads
 use Rattle.ordinary.proofs.ordinary.Reads as ordinary-reads
-use Rattle.ordinary.proofs.store_words.Reads as store-words-reads
+use Rattle.gather.proofs.store_words.Reads as store-words-reads
 
 ordinary-requires : tie.Need-ordinary-requires
 ordinary-requires c κs = search needs

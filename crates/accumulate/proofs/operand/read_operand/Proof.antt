@@ -7,7 +7,7 @@ use Rattle.accumulate.proofs.operand.read_operand.Tie as tie
 use Rattle.accumulate.proofs.operand.read_operand.Reads as reads
 use Rattle.accumulate.proofs.operand.read_operand.Lts as lts
 use Rattle.access.proofs.addressing.in_memory.Reads as in-memory-reads
-use Rattle.ordinary.proofs.gather.Reads as gather-reads
+use Rattle.gather.proofs.gather.Reads as gather-reads
 
 in-memory-requires : tie.Need-in-memory-requires
 in-memory-requires c κs = search needs

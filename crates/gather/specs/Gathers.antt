@@ -12,7 +12,7 @@ use Rattle.page.specs.declared.Verdict.{Verdict}
 use Rattle.page.specs.declared.Verdict.the-variants.{Clear, Fault}
 use Rattle.page.specs.Pages.{lookup}
 use Rattle.page.specs.Spans.{wrapped, gotAt}
-use Rattle.ordinary.specs.declared.Gathered.{Gathered}
+use Rattle.gather.specs.declared.Gathered.{Gathered}
 
 -- x, y and z are the first three of the words
 pub record FirstThree (ws : List ℕ) (x y z : ℕ) : Type 0 where

@@ -1,14 +1,14 @@
--- `ordinary::gather_third` meets its contract. Assumes nothing.
+-- `gather::gather_third` meets its contract. Assumes nothing.
 use mathlib.Core.Path.{_≡_, refl, sym, ap, _∙_}
 use borrow.Author.Tests.{le-ltb, lt-ltb}
-use Rattle.ordinary.specs.Gathers.{fromThird, after}
+use Rattle.gather.specs.Gathers.{fromThird, after}
 use borrow.Author.Needs.{needs}
-use Rattle.ordinary.proofs.gather_third.Statement.{statement}
-use Rattle.ordinary.proofs.gather_third.Tie as tie
-use Rattle.ordinary.proofs.gather_third.Reads as reads
-use Rattle.ordinary.proofs.gather_third.Lts as lts
-use Rattle.ordinary.proofs.complete.Reads as complete-reads
-use Rattle.ordinary.proofs.denied.Reads as denied-reads
+use Rattle.gather.proofs.gather_third.Statement.{statement}
+use Rattle.gather.proofs.gather_third.Tie as tie
+use Rattle.gather.proofs.gather_third.Reads as reads
+use Rattle.gather.proofs.gather_third.Lts as lts
+use Rattle.gather.proofs.complete.Reads as complete-reads
+use Rattle.gather.proofs.denied.Reads as denied-reads
 use Rattle.page.proofs.read.read_word.Reads as read-word-reads
 
 complete-requires : tie.Need-complete-requires

@@ -1,16 +1,16 @@
--- `ordinary::gather_second` meets its contract. Assumes nothing.
+-- `gather::gather_second` meets its contract. Assumes nothing.
 use mathlib.Core.Path.{_≡_, refl, sym, ap, _∙_}
 use borrow.Author.Tests.{le-ltb, lt-ltb}
-use Rattle.ordinary.specs.Gathers.{fromSecond, after}
+use Rattle.gather.specs.Gathers.{fromSecond, after}
 use Rattle.page.specs.Spans.{wrapped}
 use borrow.Author.Needs.{needs}
-use Rattle.ordinary.proofs.gather_second.Statement.{statement}
-use Rattle.ordinary.proofs.gather_second.Tie as tie
-use Rattle.ordinary.proofs.gather_second.Reads as reads
-use Rattle.ordinary.proofs.gather_second.Lts as lts
-use Rattle.ordinary.proofs.complete.Reads as complete-reads
-use Rattle.ordinary.proofs.denied.Reads as denied-reads
-use Rattle.ordinary.proofs.gather_third.Reads as gather-third-reads
+use Rattle.gather.proofs.gather_second.Statement.{statement}
+use Rattle.gather.proofs.gather_second.Tie as tie
+use Rattle.gather.proofs.gather_second.Reads as reads
+use Rattle.gather.proofs.gather_second.Lts as lts
+use Rattle.gather.proofs.complete.Reads as complete-reads
+use Rattle.gather.proofs.denied.Reads as denied-reads
+use Rattle.gather.proofs.gather_third.Reads as gather-third-reads
 use Rattle.page.proofs.read.read_word.Reads as read-word-reads
 use Rattle.std.proofs.num.wrapping_add_u16.Reads as wrapping-add-u16-reads
 

@@ -1,19 +1,19 @@
--- `ordinary::gather` meets its contract. Assumes nothing.
+-- `gather::gather` meets its contract. Assumes nothing.
 use mathlib.Core.Path.{_≡_, refl, sym, ap, _∙_}
 use borrow.Author.Tests.{le-ltb, lt-ltb}
 use lib.ListN.{length}
 use native.Mathlib.Omega.{arith}
-use Rattle.ordinary.proofs.OrdinaryLaws.{gathered-few}
-use Rattle.ordinary.specs.Gathers.{fromFirst, after}
+use Rattle.gather.proofs.GatherLaws.{gathered-few}
+use Rattle.gather.specs.Gathers.{fromFirst, after}
 use Rattle.page.specs.Spans.{wrapped}
 use borrow.Author.Needs.{needs}
-use Rattle.ordinary.proofs.gather.Statement.{statement}
-use Rattle.ordinary.proofs.gather.Tie as tie
-use Rattle.ordinary.proofs.gather.Reads as reads
-use Rattle.ordinary.proofs.gather.Lts as lts
-use Rattle.ordinary.proofs.complete.Reads as complete-reads
-use Rattle.ordinary.proofs.denied.Reads as denied-reads
-use Rattle.ordinary.proofs.gather_second.Reads as gather-second-reads
+use Rattle.gather.proofs.gather.Statement.{statement}
+use Rattle.gather.proofs.gather.Tie as tie
+use Rattle.gather.proofs.gather.Reads as reads
+use Rattle.gather.proofs.gather.Lts as lts
+use Rattle.gather.proofs.complete.Reads as complete-reads
+use Rattle.gather.proofs.denied.Reads as denied-reads
+use Rattle.gather.proofs.gather_second.Reads as gather-second-reads
 use Rattle.page.proofs.read.read_word.Reads as read-word-reads
 use Rattle.std.proofs.num.wrapping_add_u16.Reads as wrapping-add-u16-reads
 

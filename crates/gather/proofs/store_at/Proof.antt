@@ -1,13 +1,13 @@
--- `ordinary::store_at` meets its contract. Assumes nothing.
+-- `gather::store_at` meets its contract. Assumes nothing.
 use mathlib.Core.Path.{_≡_, refl, sym, ap, _∙_}
 use borrow.Author.Tests.{le-ltb, lt-ltb}
 use Rattle.page.proofs.SpanLaws.{kept, taken}
-use Rattle.ordinary.specs.Stores.{storedOne}
+use Rattle.gather.specs.Stores.{storedOne}
 use borrow.Author.Needs.{needs}
-use Rattle.ordinary.proofs.store_at.Statement.{statement}
-use Rattle.ordinary.proofs.store_at.Tie as tie
-use Rattle.ordinary.proofs.store_at.Reads as reads
-use Rattle.ordinary.proofs.store_at.Lts as lts
+use Rattle.gather.proofs.store_at.Statement.{statement}
+use Rattle.gather.proofs.store_at.Tie as tie
+use Rattle.gather.proofs.store_at.Reads as reads
+use Rattle.gather.proofs.store_at.Lts as lts
 use Rattle.page.proofs.write.write_word.Reads as write-word-reads
 
 returns : tie.Need-returns

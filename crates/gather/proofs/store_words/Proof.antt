@@ -1,14 +1,14 @@
--- `ordinary::store_words` meets its contract. Assumes nothing.
+-- `gather::store_words` meets its contract. Assumes nothing.
 use mathlib.Core.Path.{_≡_, refl, sym, ap, _∙_}
-use Rattle.ordinary.proofs.OrdinaryLaws.{three-stored}
+use Rattle.gather.proofs.GatherLaws.{three-stored}
 use borrow.Author.Needs.{needs}
-use Rattle.ordinary.proofs.store_words.Statement.{statement}
-use Rattle.ordinary.proofs.store_words.Tie as tie
-use Rattle.ordinary.proofs.store_words.Reads as reads
-use Rattle.ordinary.proofs.store_words.Lts as lts
+use Rattle.gather.proofs.store_words.Statement.{statement}
+use Rattle.gather.proofs.store_words.Tie as tie
+use Rattle.gather.proofs.store_words.Reads as reads
+use Rattle.gather.proofs.store_words.Lts as lts
 use Rattle.status.proofs.group_of.Reads as group-of-reads
 use Rattle.status.proofs.key_of.Reads as key-of-reads
-use Rattle.ordinary.proofs.store_at.Reads as store-at-reads
+use Rattle.gather.proofs.store_at.Reads as store-at-reads
 use Rattle.std.proofs.num.wrapping_add_u16.Reads as wrapping-add-u16-reads
 
 key-of-requires : tie.Need-key-of-requires

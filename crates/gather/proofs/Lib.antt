@@ -1,0 +1,2 @@
+-- The laws of the words read and stored.
+pub mod GatherLaws
