@@ -6,7 +6,7 @@ use mathlib.Core.List.{List, [], _∷_}
 use lib.Dec.{eqb}
 use Rattle.choice.specs.Select.{select}
 use Rattle.word.specs.Status.{status}
-use Rattle.word.specs.Logic.{inclusiveOr, logicalAnd}
+use Rattle.bits.specs.Logic.{inclusiveOr, logicalAnd}
 use Rattle.word.specs.Condition.{jumpTaken, branchTaken}
 use Rattle.fixed.specs.Fixed.{Outcome, sum, difference}
 use Rattle.decode.specs.Forms.{operationOf}

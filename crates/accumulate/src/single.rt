@@ -16,6 +16,8 @@ use access::addressing::accumulator_of;
 use access::addressing::operand_of;
 use access::fields::get;
 use access::fields::put;
+use bits::logic::and;
+use bits::logic::or;
 use effect::fixed_overflow;
 use effect::following;
 use fixed::Single;
@@ -23,8 +25,6 @@ use fixed::sums::add16;
 use fixed::sums::sub16;
 use machine::Core;
 use machine::Instruction;
-use word::logic::and;
-use word::logic::or;
 use word::status::status16;
 
 // A word as it is, and its status.

@@ -13,8 +13,8 @@ ghost use Rattle.rearrange.specs.Operation.{isBlock, Worked};
 use machine::Core;
 use machine::Instruction;
 use page::Span;
-use page::read::read_span;
 use rearrange::operation::rearrange;
+use storage::read::read_span;
 
 pub mod stores;
 

@@ -17,11 +17,11 @@ use access::fields::field_b;
 use access::fields::get;
 use access::fields::registers_from;
 use machine::Instruction;
-use page::write::write_span;
 use spans::all_from;
 use spans::moved_span;
 use spans::pushed_span;
 use std::num::wrapping_add_u16;
+use storage::write::write_span;
 
 // Register j as PSHM stores it as word number i, which is at most 15.
 pub fn pushed_word(regs: &[u16; 16], j: u16, i: u16) -> u16

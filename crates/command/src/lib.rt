@@ -8,7 +8,6 @@ use access::fields::get;
 use machine::Core;
 use machine::Instruction;
 
-pub mod parts;
 pub mod xio;
 
 // A privileged operation is done, and leaves this core; or its command is refused with an FT bit, and nothing is changed.
@@ -30,7 +29,7 @@ pub fn transfer(
         ≡ transferred (joined core (now (regs .entry))) (now (pages .entry)) (now (ports .entry)) n)
         × Kept r (now (regs .entry)) (now (regs .exit)) × Kept r (now (pages .entry)) (now (pages .exit)) × Kept r (now (ports .entry)) (now (ports .exit)) ⌝ }
 {
-    let next = parts::resume(core, n);
+    let next = control::resume(core, n);
     let ra = get(regs, field_a(n.first));
     if n.address < 0x8000 {
         return xio::output(next, pages, ports, ra, n.address);

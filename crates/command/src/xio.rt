@@ -10,19 +10,19 @@ ghost use Rattle.isa.specs.Fields.{fieldA, withRegister};
 ghost use Rattle.isa.specs.Commands.{stateCommand, commanded};
 ghost use Rattle.command.specs.Outcome.{governed, Kept};
 use crate::Governed;
-use crate::parts::hold_pending;
-use crate::parts::reset_pending;
-use crate::parts::set_enabled;
-use crate::parts::set_mask;
-use crate::parts::set_pending;
-use crate::parts::set_status;
-use crate::parts::set_timer_a;
-use crate::parts::set_timer_b;
 use access::fields::field_a;
 use access::fields::put;
+use bits::bits::reset_bit;
+use control::hold_pending;
+use control::reset_pending;
+use control::set_enabled;
+use control::set_mask;
+use control::set_pending;
+use control::set_status;
+use control::set_timer_a;
+use control::set_timer_b;
 use machine::Core;
 use machine::Instruction;
-use word::bits::reset_bit;
 
 // The outputs to the state: SMK CLIR ENBL DSBL RPI SPI WSW, TAS TAH OTA TBS TBH OTB.
 fn state_output(core: Core, ra: u16, command: u16) -> Governed

@@ -8,6 +8,7 @@ ghost use Rattle.machine.specs.declared.State.{State};
 ghost use Rattle.machine.specs.State.{joined};
 ghost use lib.Bits.{bitOr};
 ghost use Rattle.machine.specs.Entries.{linked, linkStored, refusalOf, machineError, arrived};
+use bits::bits::reset_bit;
 use machine::Core;
 use machine::Vector;
 use page::Access;
@@ -16,10 +17,9 @@ use page::Span;
 use page::Verdict;
 use page::lookup::check_span;
 use page::lookup::look_up;
-use page::write::write_span;
 use status::group_of;
 use std::num::wrapping_add_u16;
-use word::bits::reset_bit;
+use storage::write::write_span;
 
 // PI bit 1 where there is a fault.
 fn machine_error(b: u16) -> u16

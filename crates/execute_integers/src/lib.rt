@@ -29,14 +29,14 @@ use fixed::sums::negate16;
 use fixed::sums::negate32;
 use fixed::sums::sub16;
 use machine::Instruction;
-use word::bytes::exchange_bytes;
+use bits::bytes::exchange_bytes;
 use word::compare::compare_limits;
 use word::compare::compare16;
 use word::compare::compare32;
-use word::logic::and;
-use word::logic::nand;
-use word::logic::or;
-use word::logic::xor;
+use bits::logic::and;
+use bits::logic::nand;
+use bits::logic::or;
+use bits::logic::xor;
 
 pub mod outcomes;
 

@@ -2,7 +2,7 @@
 ghost use mathlib.Core.List.{List};
 ghost use mathlib.Core.Path.{_≡_};
 ghost use Prim.Native.Nat.{ℕ, _<_};
-ghost use Rattle.word.specs.Bits.{setBit, testBit};
+ghost use Rattle.bits.specs.Bits.{setBit, testBit};
 ghost use Rattle.decode.specs.Forms.{operationOf};
 ghost use Rattle.isa.specs.Effects.{modified};
 ghost use Rattle.isa.specs.Words.{bitOperation};
@@ -11,6 +11,9 @@ use access::addressing::operand_of;
 use access::fields::field_a;
 use access::fields::field_b;
 use access::fields::get;
+use bits::bits::reset_bit;
+use bits::bits::set_bit;
+use bits::bits::test_bit;
 use effect::Work;
 use effect::shapes::loaded;
 use effect::shapes::modified;
@@ -18,9 +21,6 @@ use effect::shapes::nothing;
 use effect::shapes::replaced;
 use effect::shapes::tested;
 use machine::Instruction;
-use word::bits::reset_bit;
-use word::bits::set_bit;
-use word::bits::test_bit;
 
 // TSB: bit a of the operand o is tested, then set (5.6). Every caller's bit number is a field of four bits.
 fn test_and_set(ic: u16, pi: u16, n: Instruction, o: u16, a: u16) -> Work

@@ -8,6 +8,8 @@ use access::addressing::double_operand;
 use access::addressing::operand_of;
 use access::fields::field_a;
 use access::fields::get;
+use bits::bytes::load_lower;
+use bits::bytes::load_upper;
 use effect::Work;
 use effect::shapes::double;
 use effect::shapes::nothing;
@@ -16,8 +18,6 @@ use effect::shapes::single;
 use float::mantissa::status;
 use float::packing::mantissa40;
 use machine::Instruction;
-use word::bytes::load_lower;
-use word::bytes::load_upper;
 
 // L DL EFL LUB LLB; x, y and z are the words read.
 pub fn load_operation(

@@ -6,13 +6,13 @@ ghost use Rattle.effect.specs.Work.{context, worked};
 use access::addressing::accumulator_of;
 use access::fields::field_a;
 use access::fields::get;
+use bits::bytes::store_lower;
+use bits::bytes::store_masked;
+use bits::bytes::store_upper;
 use effect::Work;
 use effect::shapes::nothing;
 use effect::shapes::stored;
 use machine::Instruction;
-use word::bytes::store_lower;
-use word::bytes::store_masked;
-use word::bytes::store_upper;
 
 // ST STC DST SRM EFST STUB STLB; x is the word read.
 pub fn store_operation(regs: &[u16; 16], ic: u16, sw: u16, pi: u16, n: Instruction, x: u16) -> Work

@@ -12,11 +12,11 @@ ghost use Rattle.gather.specs.Stores.{storedOne};
 use page::Access;
 use page::Got;
 use page::Span;
-use page::read::read_word;
-use page::write::write_word;
 use status::group_of;
 use status::key_of;
 use std::num::wrapping_add_u16;
+use storage::read::read_word;
+use storage::write::write_word;
 
 // The words read, 0 past their number, where all accesses are open; else the FT bit of the first refusal.
 pub struct Gathered {

@@ -11,9 +11,9 @@ use page::Access;
 use page::Got;
 use page::Place;
 use page::lookup::look_up;
-use page::read::read_word;
-use page::read::word_of;
 use std::num::wrapping_add_u16;
+use storage::read::read_word;
+use storage::read::word_of;
 
 // The FT bit of a word that was refused, or 0.
 fn fault_of(got: Got) -> u16

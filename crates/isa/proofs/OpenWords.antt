@@ -1,11 +1,11 @@
 -- Opens every definition of words, integers and shifts at once: `unfolding words`. Written by tools/open.py. Assumes nothing.
 use Rattle.whole.specs.Normal.{normal, moves, distance}
 use Rattle.whole.specs.Whole.{signed, wrap, holds, withSign, floorDiv, shiftLeft, shiftRight, shiftArith, rotate, signChanges}
-use Rattle.word.specs.Bits.{weight, bit, setBit, resetBit, testBit}
-use Rattle.word.specs.Bytes.{bytes, upperByte, lowerByte, loadUpper, loadLower, storeMasked, storeUpper, storeLower, exchange}
+use Rattle.bits.specs.Bits.{weight, bit, setBit, resetBit, testBit}
+use Rattle.bits.specs.Bytes.{bytes, upperByte, lowerByte, loadUpper, loadLower, storeMasked, storeUpper, storeLower, exchange}
 use Rattle.word.specs.Compare.{below, compared, limited}
 use Rattle.word.specs.Condition.{jumpTaken, shows, branchTaken}
-use Rattle.word.specs.Logic.{inclusiveOr, logicalAnd, exclusiveOr, logicalNand}
+use Rattle.bits.specs.Logic.{inclusiveOr, logicalAnd, exclusiveOr, logicalNand}
 use Rattle.word.specs.Pair.{pair, highWord, lowWord}
 use Rattle.word.specs.Status.{status, withCarry}
 use Rattle.fixed.specs.Fixed.{single, double, result, sum, absolute, difference, negated}

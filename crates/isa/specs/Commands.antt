@@ -9,7 +9,7 @@ use Rattle.choice.specs.Select.{select, upTo}
 use Rattle.decode.specs.Forms.{operationOf}
 use Rattle.machine.specs.declared.State.{State}
 use Rattle.machine.specs.declared.Instruction.{Instruction}
-use Rattle.word.specs.Bits.{resetBit}
+use Rattle.bits.specs.Bits.{resetBit}
 use Rattle.machine.specs.State.{bit, withRegs, withIc, withSw, withMk, withPi, withFt, withEnabled, withHold, withTa, withTb, withTaOn, withTbOn}
 use Rattle.machine.specs.Machine.{Supervised, done, refused, nextOf}
 use Rattle.isa.specs.Fields.{fieldA, register, withRegister}

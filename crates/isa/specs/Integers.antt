@@ -4,8 +4,8 @@ use Prim.Native.Nat.{ℕ, _+_}
 use mathlib.Core.List.{[], _∷_}
 use Rattle.choice.specs.Select.{select}
 use Rattle.word.specs.Pair.{highWord, lowWord}
-use Rattle.word.specs.Bytes.{exchange}
-use Rattle.word.specs.Logic.{inclusiveOr, logicalAnd, exclusiveOr, logicalNand}
+use Rattle.bits.specs.Bytes.{exchange}
+use Rattle.bits.specs.Logic.{inclusiveOr, logicalAnd, exclusiveOr, logicalNand}
 use Rattle.word.specs.Compare.{compared, limited}
 use Rattle.divide.specs.declared.Quotient.{Quotient}
 use Rattle.fixed.specs.Fixed.{Outcome, sum, difference, negated, absolute}

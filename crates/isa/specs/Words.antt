@@ -8,8 +8,8 @@ use Rattle.choice.specs.Select.{select}
 use Rattle.whole.specs.Whole.{shiftLeft, shiftRight, shiftArith, rotate}
 use Rattle.word.specs.Pair.{pair, highWord, lowWord}
 use Rattle.word.specs.Status.{status}
-use Rattle.word.specs.Bits.{setBit, resetBit, testBit}
-use Rattle.word.specs.Bytes.{loadUpper, loadLower, storeMasked, storeUpper, storeLower}
+use Rattle.bits.specs.Bits.{setBit, resetBit, testBit}
+use Rattle.bits.specs.Bytes.{loadUpper, loadLower, storeMasked, storeUpper, storeLower}
 use Rattle.word.specs.Condition.{jumpTaken, branchTaken}
 use Rattle.shift.specs.Shift.{Shifted, logicalBy, arithmeticBy, circularBy}
 use Rattle.float.specs.Words.{mantissa40}

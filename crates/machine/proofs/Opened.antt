@@ -2,7 +2,7 @@
 use Rattle.page.specs.Pages.{lockOf, protectOf, frameOf, setOf, registerAt, admits, barred, physical, placed, through, present, lookup}
 use Rattle.page.specs.Spans.{wrapped, gotAt, wordOf, putAt, andThen, passed, checkedFrom, checked, readFrom, wordsOf, writtenFrom, written}
 use Rattle.machine.specs.State.{csOf, keyOf, groupOf, withCs, withRegs, withIc, withSw, withMk, withPi, withFt, withEnabled, withHold, withTa, withTb, withTaOn, withTbOn, withCount, advanced}
-use Rattle.word.specs.Bits.{weight, bit, resetBit}
+use Rattle.bits.specs.Bits.{weight, bit, resetBit}
 use Rattle.machine.specs.Machine.{nextOf}
 use Rattle.machine.specs.Instructions.{permitted, readyAt, redirected, derived, extended, granted, decoded, fetched, prepared, both, supervised, operated, accessed, carried, instructed}
 use Rattle.machine.specs.Entries.{takeable, lowest, chosen, faultOf, gotZero, vectorOf, callOf, oldWords, linked, linkStored, refusalOf, machineError, arrived}

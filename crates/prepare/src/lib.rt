@@ -22,8 +22,8 @@ use page::Access;
 use page::Got;
 use page::Place;
 use page::lookup::look_up;
-use page::read::read_word;
 use status::advance;
+use storage::read::read_word;
 
 // Who may run an operation: BEX (5.30) calls the executive, XIO (5.1) and LST (5.35) are privileged.
 pub fn class_of(operation: u16) -> Class

@@ -14,7 +14,7 @@ use Rattle.block.proofs.block.Reads as reads
 use Rattle.block.proofs.block.Lts as lts
 use Rattle.rearrange.proofs.operation.rearrange.Reads as rearrange-reads
 use Rattle.block.proofs.stores.store_words.Reads as store-words-reads
-use Rattle.page.proofs.read.read_span.Reads as read-span-reads
+use Rattle.storage.proofs.read.read_span.Reads as read-span-reads
 
 read-span-requires : tie.Need-read-span-requires
 read-span-requires c κs = (c .before .before .before .before .before .before .pre .0, search needs, c .before .before .before .before .before .before .pre .3)

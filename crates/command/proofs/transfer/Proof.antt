@@ -10,7 +10,7 @@ use Rattle.command.proofs.transfer.Reads as reads
 use Rattle.command.proofs.transfer.Lts as lts
 use Rattle.access.proofs.fields.field_a.Reads as field-a-reads
 use Rattle.access.proofs.fields.get.Reads as get-reads
-use Rattle.command.proofs.parts.resume.Reads as resume-reads
+use Rattle.control.proofs.resume.Reads as resume-reads
 use Rattle.command.proofs.xio.input.Reads as input-reads
 use Rattle.command.proofs.xio.output.Reads as output-reads
 

@@ -8,7 +8,7 @@ use Rattle.entry.proofs.arrive.Tie as tie
 use Rattle.entry.proofs.arrive.Reads as reads
 use Rattle.entry.proofs.arrive.Lts as lts
 use Rattle.entry.proofs.machine_error.Reads as machine-error-reads
-use Rattle.word.proofs.bits.reset_bit.Reads as reset-bit-reads
+use Rattle.bits.proofs.bits.reset_bit.Reads as reset-bit-reads
 
 reset-bit-requires : tie.Need-reset-bit-requires
 reset-bit-requires c κs = search needs

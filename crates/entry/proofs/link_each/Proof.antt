@@ -8,7 +8,7 @@ use Rattle.entry.proofs.link_each.Reads as reads
 use Rattle.entry.proofs.link_each.Lts as lts
 use Rattle.status.proofs.group_of.Reads as group-of-reads
 use Rattle.page.proofs.lookup.check_span.Reads as check-span-reads
-use Rattle.page.proofs.write.write_span.Reads as write-span-reads
+use Rattle.storage.proofs.write.write_span.Reads as write-span-reads
 
 group-of-requires : tie.Need-group-of-requires
 group-of-requires c κs = search needs

@@ -14,7 +14,7 @@ use Rattle.gather.proofs.gather.Lts as lts
 use Rattle.gather.proofs.complete.Reads as complete-reads
 use Rattle.gather.proofs.denied.Reads as denied-reads
 use Rattle.gather.proofs.gather_second.Reads as gather-second-reads
-use Rattle.page.proofs.read.read_word.Reads as read-word-reads
+use Rattle.storage.proofs.read.read_word.Reads as read-word-reads
 use Rattle.std.proofs.num.wrapping_add_u16.Reads as wrapping-add-u16-reads
 
 complete-requires : tie.Need-complete-requires

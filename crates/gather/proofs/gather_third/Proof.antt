@@ -9,7 +9,7 @@ use Rattle.gather.proofs.gather_third.Reads as reads
 use Rattle.gather.proofs.gather_third.Lts as lts
 use Rattle.gather.proofs.complete.Reads as complete-reads
 use Rattle.gather.proofs.denied.Reads as denied-reads
-use Rattle.page.proofs.read.read_word.Reads as read-word-reads
+use Rattle.storage.proofs.read.read_word.Reads as read-word-reads
 
 complete-requires : tie.Need-complete-requires
 complete-requires c κs = search needs

@@ -8,7 +8,7 @@ use Rattle.gather.proofs.store_at.Statement.{statement}
 use Rattle.gather.proofs.store_at.Tie as tie
 use Rattle.gather.proofs.store_at.Reads as reads
 use Rattle.gather.proofs.store_at.Lts as lts
-use Rattle.page.proofs.write.write_word.Reads as write-word-reads
+use Rattle.storage.proofs.write.write_word.Reads as write-word-reads
 
 returns : tie.Need-returns
 unfolding storedOne

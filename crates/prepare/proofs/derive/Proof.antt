@@ -9,7 +9,7 @@ use Rattle.prepare.proofs.derive.Tie as tie
 use Rattle.prepare.proofs.derive.Reads as reads
 use Rattle.prepare.proofs.derive.Lts as lts
 use Rattle.access.proofs.addressing.derive.Reads as derive-reads
-use Rattle.page.proofs.read.read_word.Reads as read-word-reads
+use Rattle.storage.proofs.read.read_word.Reads as read-word-reads
 use Rattle.prepare.proofs.ready.Reads as ready-reads
 use Rattle.prepare.proofs.redirect.Reads as redirect-reads
 

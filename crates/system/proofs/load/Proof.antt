@@ -11,7 +11,7 @@ use Rattle.system.proofs.load.Statement.{statement}
 use Rattle.system.proofs.load.Tie as tie
 use Rattle.system.proofs.load.Reads as reads
 use Rattle.system.proofs.load.Lts as lts
-use Rattle.command.proofs.parts.load_status.Reads as load-status-reads
+use Rattle.control.proofs.load_status.Reads as load-status-reads
 use Rattle.moved.proofs.deny.Reads as deny-reads
 use Rattle.moved.proofs.unsettled.Reads as unsettled-reads
 use Rattle.accumulate.proofs.operand.read_operand.Reads as read-operand-reads

@@ -11,8 +11,8 @@ use Rattle.accumulate.proofs.single.combine16.Lts as lts
 use Rattle.accumulate.proofs.single.plain16.Reads as plain16-reads
 use Rattle.fixed.proofs.sums.add16.Reads as add16-reads
 use Rattle.fixed.proofs.sums.sub16.Reads as sub16-reads
-use Rattle.word.proofs.logic.and.Reads as and-reads
-use Rattle.word.proofs.logic.or.Reads as or-reads
+use Rattle.bits.proofs.logic.and.Reads as and-reads
+use Rattle.bits.proofs.logic.or.Reads as or-reads
 
 add16-requires : tie.Need-add16-requires
 add16-requires c κs = search needs

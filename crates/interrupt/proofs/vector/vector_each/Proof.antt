@@ -9,7 +9,7 @@ use Rattle.interrupt.proofs.vector.vector_each.Reads as reads
 use Rattle.interrupt.proofs.vector.vector_each.Lts as lts
 use Rattle.interrupt.proofs.vector.fault_of.Reads as fault-of-reads
 use Rattle.interrupt.proofs.vector.read_zero.Reads as read-zero-reads
-use Rattle.page.proofs.read.word_of.Reads as word-of-reads
+use Rattle.storage.proofs.read.word_of.Reads as word-of-reads
 use Rattle.std.proofs.num.wrapping_add_u16.Reads as wrapping-add-u16-reads
 
 mul-read-zero : tie.Need-mul-read-zero
