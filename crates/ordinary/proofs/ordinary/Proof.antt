@@ -13,10 +13,10 @@ use Rattle.effect.proofs.shapes.nothing.Reads as nothing-reads
 use Rattle.execute_floats.proofs.float_operation.Reads as float-operation-reads
 use Rattle.execute_integers.proofs.integer_operation.Reads as integer-operation-reads
 use Rattle.execute_integers.proofs.logical_operation.Reads as logical-operation-reads
-use Rattle.execute_words.proofs.bits.bit_operation.Reads as bit-operation-reads
+use Rattle.execute_bits.proofs.bit.bit_operation.Reads as bit-operation-reads
 use Rattle.execute_words.proofs.jumps.jump_operation.Reads as jump-operation-reads
 use Rattle.execute_words.proofs.loads.load_operation.Reads as load-operation-reads
-use Rattle.execute_words.proofs.shifts.shift_operation.Reads as shift-operation-reads
+use Rattle.execute_bits.proofs.shifts.shift_operation.Reads as shift-operation-reads
 use Rattle.execute_words.proofs.stores.store_operation.Reads as store-operation-reads
 
 bit-operation-requires : tie.Need-bit-operation-requires

@@ -1,8 +1,8 @@
--- `execute_words::bits::test_and_set` meets its contract. Assumes nothing.
+-- `execute_bits::bit::test_and_set` meets its contract. Assumes nothing.
 use mathlib.Core.Path.{_≡_, refl, sym, ap, _∙_}
 use borrow.Author.Needs.{needs}
-use Rattle.execute_words.proofs.bits.test_and_set.Statement.{statement}
-use Rattle.execute_words.proofs.bits.test_and_set.Tie as tie
+use Rattle.execute_bits.proofs.bit.test_and_set.Statement.{statement}
+use Rattle.execute_bits.proofs.bit.test_and_set.Tie as tie
 
 set-bit-requires : tie.Need-set-bit-requires
 set-bit-requires c κs = search needs

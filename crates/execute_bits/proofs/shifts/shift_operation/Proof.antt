@@ -1,12 +1,12 @@
--- `execute_words::shifts::shift_operation` meets its contract. Assumes nothing.
+-- `execute_bits::shifts::shift_operation` meets its contract. Assumes nothing.
 use mathlib.Core.List.{List, [], _∷_}
 use Prim.Native.Nat.{_+_, _%_}
 use Rattle.choice.proofs.SelectLaws.{otherwise}
 use Rattle.isa.specs.Words.{shiftOperation}
 use mathlib.Core.Path.{_≡_, refl, sym, ap, _∙_}
 use borrow.Author.Needs.{needs}
-use Rattle.execute_words.proofs.shifts.shift_operation.Statement.{statement}
-use Rattle.execute_words.proofs.shifts.shift_operation.Tie as tie
+use Rattle.execute_bits.proofs.shifts.shift_operation.Statement.{statement}
+use Rattle.execute_bits.proofs.shifts.shift_operation.Tie as tie
 
 field-a-requires : tie.Need-field-a-requires
 field-a-requires c κs = search needs

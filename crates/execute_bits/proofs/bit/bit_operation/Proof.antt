@@ -1,12 +1,12 @@
--- `execute_words::bits::bit_operation` meets its contract. Assumes nothing.
+-- `execute_bits::bit::bit_operation` meets its contract. Assumes nothing.
 use mathlib.Core.List.{List, [], _∷_}
 use Prim.Native.Nat.{_+_, _%_}
 use Rattle.choice.proofs.SelectLaws.{otherwise}
 use Rattle.isa.specs.Words.{bitOperation}
 use mathlib.Core.Path.{_≡_, refl, sym, ap, _∙_}
 use borrow.Author.Needs.{needs}
-use Rattle.execute_words.proofs.bits.bit_operation.Statement.{statement}
-use Rattle.execute_words.proofs.bits.bit_operation.Tie as tie
+use Rattle.execute_bits.proofs.bit.bit_operation.Statement.{statement}
+use Rattle.execute_bits.proofs.bit.bit_operation.Tie as tie
 
 field-a-requires : tie.Need-field-a-requires
 field-a-requires c κs = search needs

@@ -1,9 +1,9 @@
--- `execute_words::shifts::register_pair` meets its contract. Assumes nothing.
+-- `execute_bits::shifts::register_pair` meets its contract. Assumes nothing.
 use Rattle.isa.specs.Words.{registerPair}
 use mathlib.Core.Path.{_≡_, refl, sym, ap, _∙_}
 use borrow.Author.Needs.{needs}
-use Rattle.execute_words.proofs.shifts.register_pair.Statement.{statement}
-use Rattle.execute_words.proofs.shifts.register_pair.Tie as tie
+use Rattle.execute_bits.proofs.shifts.register_pair.Statement.{statement}
+use Rattle.execute_bits.proofs.shifts.register_pair.Tie as tie
 
 get-requires : tie.Need-get-requires
 get-requires c κs = search needs

@@ -1,9 +1,9 @@
--- `execute_words::shifts::shifted_double` meets its contract. Assumes nothing.
+-- `execute_bits::shifts::shifted_double` meets its contract. Assumes nothing.
 use Rattle.isa.specs.Words.{shiftedDouble}
 use mathlib.Core.Path.{_≡_, refl, sym, ap, _∙_}
 use borrow.Author.Needs.{needs}
-use Rattle.execute_words.proofs.shifts.shifted_double.Statement.{statement}
-use Rattle.execute_words.proofs.shifts.shifted_double.Tie as tie
+use Rattle.execute_bits.proofs.shifts.shifted_double.Statement.{statement}
+use Rattle.execute_bits.proofs.shifts.shifted_double.Tie as tie
 
 fixed-overflow-requires : tie.Need-fixed-overflow-requires
 fixed-overflow-requires c κs = search needs

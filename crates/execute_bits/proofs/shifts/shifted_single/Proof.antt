@@ -1,9 +1,9 @@
--- `execute_words::shifts::shifted_single` meets its contract. Assumes nothing.
+-- `execute_bits::shifts::shifted_single` meets its contract. Assumes nothing.
 use Rattle.isa.specs.Words.{shiftedSingle}
 use mathlib.Core.Path.{_≡_, refl, sym, ap, _∙_}
 use borrow.Author.Needs.{needs}
-use Rattle.execute_words.proofs.shifts.shifted_single.Statement.{statement}
-use Rattle.execute_words.proofs.shifts.shifted_single.Tie as tie
+use Rattle.execute_bits.proofs.shifts.shifted_single.Statement.{statement}
+use Rattle.execute_bits.proofs.shifts.shifted_single.Tie as tie
 
 field-a-requires : tie.Need-field-a-requires
 field-a-requires c κs = search needs
