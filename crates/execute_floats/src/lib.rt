@@ -3,15 +3,6 @@ ghost use mathlib.Core.Path.{_≡_};
 ghost use Rattle.decode.specs.Forms.{operationOf};
 ghost use Rattle.isa.specs.Floats.{floatOperation};
 ghost use Rattle.effect.specs.Work.{context, worked};
-use crate::operands::both24;
-use crate::operands::both40;
-use crate::operands::change24;
-use crate::operands::combine;
-use crate::operands::compare_both;
-use crate::results::give24;
-use crate::results::give40;
-use crate::results::to_double_integer;
-use crate::results::to_integer;
 use access::addressing::accumulator_of;
 use access::addressing::double_operand;
 use access::addressing::operand_of;
@@ -21,18 +12,16 @@ use effect::shapes::nothing;
 use effect::shapes::tested;
 use float_convert::convert::float24;
 use float_convert::convert::float40;
+use float_words::operands::both24;
+use float_words::operands::both40;
+use float_words::operands::change24;
+use float_words::operands::combine;
+use float_words::operands::compare_both;
+use float_words::results::give24;
+use float_words::results::give40;
+use float_words::results::to_double_integer;
+use float_words::results::to_integer;
 use machine::Instruction;
-
-pub mod operands;
-pub mod results;
-
-// Two floats: the bits of their mantissas, and their exponents, the standard's plus 128.
-pub struct Both {
-    pub a: u64,
-    pub ea: u32,
-    pub b: u64,
-    pub eb: u32,
-}
 
 // 5.60 to 5.62, 5.68 to 5.70, 5.74, 5.75, 5.79, 5.80, 5.85 to 5.88, 5.94, 5.95: FA EFA FABS, FS EFS FNEG, FM EFM, FD EFD, FIX FLT EFIX EFLT, FC EFC.
 // x, y and z are the words read, k the accumulator's number.

@@ -1,7 +1,7 @@
 -- `execute_floats::float_operation` meets its contract. Assumes nothing.
 use Rattle.isa.specs.Floats.{floatOperation}
-use Rattle.execute_floats.specs.Operands.{arithmetic, resigned}
-use Rattle.execute_floats.proofs.FloatEffects.{combined24-is, combined40-is, changed24-is, compared24-is, compared40-is}
+use Rattle.float_words.specs.Operands.{arithmetic, resigned}
+use Rattle.float_words.proofs.FloatEffects.{combined24-is, combined40-is, changed24-is, compared24-is, compared40-is}
 use Rattle.float_add.specs.Add.{sumOf, differenceOf}
 use Rattle.float_mul.specs.Multiply.{productOf}
 use Rattle.float_div.specs.Divide.{quotientOf}

@@ -1,12 +1,12 @@
--- `execute_floats::operands::combine` meets its contract. Assumes nothing.
-use Rattle.execute_floats.specs.Operands.{arithmetic}
+-- `float_words::operands::combine` meets its contract. Assumes nothing.
+use Rattle.float_words.specs.Operands.{arithmetic}
 use mathlib.Core.Path.{_≡_, refl, sym, ap, _∙_}
 use Prim.Native.Nat.{_/_, _%_, _+_}
 use borrow.Author.Tests.{ne-eqb}
 use native.Mathlib.Omega.{arith}
 use borrow.Author.Needs.{needs}
-use Rattle.execute_floats.proofs.operands.combine.Statement.{statement}
-use Rattle.execute_floats.proofs.operands.combine.Tie as tie
+use Rattle.float_words.proofs.operands.combine.Statement.{statement}
+use Rattle.float_words.proofs.operands.combine.Tie as tie
 
 add-requires : tie.Need-add-requires
 add-requires c κs = search needs

@@ -4,7 +4,7 @@ ghost use Prim.Native.Nat.{_≤_};
 ghost use Rattle.whole.specs.Whole.{signed};
 ghost use Rattle.float.specs.Float.{given};
 ghost use Rattle.float_convert.specs.Convert.{comparedOf};
-ghost use Rattle.execute_floats.specs.Operands.{operands24, operands40, Within, arithmetic, resigned};
+ghost use Rattle.float_words.specs.Operands.{operands24, operands40, Within, arithmetic, resigned};
 use crate::Both;
 use access::addressing::accumulator_of;
 use access::addressing::operand_word;

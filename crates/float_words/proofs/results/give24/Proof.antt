@@ -1,12 +1,12 @@
--- `execute_floats::results::give24` meets its contract. Assumes nothing.
+-- `float_words::results::give24` meets its contract. Assumes nothing.
 use Rattle.isa.specs.Floats.{float24}
 use mathlib.Core.Path.{_≡_, refl, sym, ap, _∙_}
 use Prim.Native.Nat.{_/_, _%_, _+_}
 use borrow.Author.Tests.{ne-eqb}
 use native.Mathlib.Omega.{arith}
 use borrow.Author.Needs.{needs}
-use Rattle.execute_floats.proofs.results.give24.Statement.{statement}
-use Rattle.execute_floats.proofs.results.give24.Tie as tie
+use Rattle.float_words.proofs.results.give24.Statement.{statement}
+use Rattle.float_words.proofs.results.give24.Tie as tie
 
 first-word-requires : tie.Need-first-word-requires
 first-word-requires c κs = search needs

@@ -1,12 +1,12 @@
--- `execute_floats::operands::both40` meets its contract. Assumes nothing.
-use Rattle.execute_floats.specs.Operands.{operands40}
+-- `float_words::operands::both40` meets its contract. Assumes nothing.
+use Rattle.float_words.specs.Operands.{operands40}
 use mathlib.Core.Path.{_≡_, refl, sym, ap, _∙_}
 use Prim.Native.Nat.{_/_, _%_, _+_}
 use borrow.Author.Tests.{ne-eqb}
 use native.Mathlib.Omega.{arith}
 use borrow.Author.Needs.{needs}
-use Rattle.execute_floats.proofs.operands.both40.Statement.{statement}
-use Rattle.execute_floats.proofs.operands.both40.Tie as tie
+use Rattle.float_words.proofs.operands.both40.Statement.{statement}
+use Rattle.float_words.proofs.operands.both40.Tie as tie
 
 field-a-requires : tie.Need-field-a-requires
 field-a-requires c κs = search needs

@@ -16,8 +16,8 @@ use Rattle.isa.specs.Addressing.{accumulator}
 use Rattle.isa.specs.Words.{registerPair}
 use Rattle.isa.specs.Effects.{Context, fixedOverflow, result, tested}
 use Rattle.isa.specs.Floats.{float24, float40, both24, both40, combined24, combined40, changed24, toInteger, toDoubleInteger}
-use Rattle.execute_floats.specs.declared.Both.{Both}
-use Rattle.execute_floats.specs.Operands.{operands24, operands40}
+use Rattle.float_words.specs.declared.Both.{Both}
+use Rattle.float_words.specs.Operands.{operands24, operands40}
 
 -- the accumulator and the operand combined
 pub combined24-is : (f : ℤ → ℕ → ℤ → ℕ → Result) (v : Context) (n : Instruction) (x y k : ℕ) (p : Both) (g : Float) → k ≡ accumulator n → p ≡ operands24 (v .regs) n x y → g ≡ given 24 (f (signed 24 (p .a)) (p .ea) (signed 24 (p .b)) (p .eb)) → float24 v n k g ≡ combined24 f v n x y

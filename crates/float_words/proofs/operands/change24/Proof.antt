@@ -1,12 +1,12 @@
--- `execute_floats::operands::change24` meets its contract. Assumes nothing.
-use Rattle.execute_floats.specs.Operands.{resigned}
+-- `float_words::operands::change24` meets its contract. Assumes nothing.
+use Rattle.float_words.specs.Operands.{resigned}
 use mathlib.Core.Path.{_≡_, refl, sym, ap, _∙_}
 use Prim.Native.Nat.{_/_, _%_, _+_}
 use borrow.Author.Tests.{ne-eqb}
 use native.Mathlib.Omega.{arith}
 use borrow.Author.Needs.{needs}
-use Rattle.execute_floats.proofs.operands.change24.Statement.{statement}
-use Rattle.execute_floats.proofs.operands.change24.Tie as tie
+use Rattle.float_words.proofs.operands.change24.Statement.{statement}
+use Rattle.float_words.proofs.operands.change24.Tie as tie
 
 absolute24-requires : tie.Need-absolute24-requires
 absolute24-requires c κs = (c .before .pre .2, c .before .pre .3)

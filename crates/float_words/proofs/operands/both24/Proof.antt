@@ -1,12 +1,12 @@
--- `execute_floats::operands::both24` meets its contract. Assumes nothing.
-use Rattle.execute_floats.specs.Operands.{operands24}
+-- `float_words::operands::both24` meets its contract. Assumes nothing.
+use Rattle.float_words.specs.Operands.{operands24}
 use mathlib.Core.Path.{_≡_, refl, sym, ap, _∙_}
 use Prim.Native.Nat.{_/_, _%_, _+_}
 use borrow.Author.Tests.{ne-eqb}
 use native.Mathlib.Omega.{arith}
 use borrow.Author.Needs.{needs}
-use Rattle.execute_floats.proofs.operands.both24.Statement.{statement}
-use Rattle.execute_floats.proofs.operands.both24.Tie as tie
+use Rattle.float_words.proofs.operands.both24.Statement.{statement}
+use Rattle.float_words.proofs.operands.both24.Tie as tie
 
 accumulator-of-requires : tie.Need-accumulator-of-requires
 accumulator-of-requires c κs = search needs

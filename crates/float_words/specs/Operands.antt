@@ -12,7 +12,7 @@ use Rattle.float_convert.specs.Convert.{negatedOf, absoluteOf}
 use Rattle.machine.specs.declared.Instruction.{Instruction}
 use Rattle.isa.specs.Fields.{fieldA, register}
 use Rattle.isa.specs.Addressing.{operandWord, accumulator}
-use Rattle.execute_floats.specs.declared.Both.{Both}
+use Rattle.float_words.specs.declared.Both.{Both}
 
 -- the accumulator and the operand, with mantissas of 24 bits
 unfoldable pub operands24 : List ℕ → Instruction → ℕ → ℕ → Both

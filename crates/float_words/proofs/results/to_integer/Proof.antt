@@ -1,12 +1,12 @@
--- `execute_floats::results::to_integer` meets its contract. Assumes nothing.
-use Rattle.execute_floats.proofs.FloatEffects.{integer-is}
+-- `float_words::results::to_integer` meets its contract. Assumes nothing.
+use Rattle.float_words.proofs.FloatEffects.{integer-is}
 use mathlib.Core.Path.{_≡_, refl, sym, ap, _∙_}
 use Prim.Native.Nat.{_/_, _%_, _+_}
 use borrow.Author.Tests.{ne-eqb}
 use native.Mathlib.Omega.{arith}
 use borrow.Author.Needs.{needs}
-use Rattle.execute_floats.proofs.results.to_integer.Statement.{statement}
-use Rattle.execute_floats.proofs.results.to_integer.Tie as tie
+use Rattle.float_words.proofs.results.to_integer.Statement.{statement}
+use Rattle.float_words.proofs.results.to_integer.Tie as tie
 
 field-a-requires : tie.Need-field-a-requires
 field-a-requires c κs = search needs
