@@ -18,6 +18,8 @@ rows =
     -- n above 7F and below 80, and an underflow by normalising alone
     ∷ over 24 0x4000_0040 0x4000_0040 0x7fff_ff7f ∷ over 24 0x4000_0040 0xa000_0040 0x8000_007f ∷ under 24 0x4000_0080 0x4000_00ff 0 ∷ under 24 0x4000_00c0 0x4000_00c0 0
     ∷ over 40 0x4000_0040_0000 0xa000_0040_0000 0x8000_007f_0000 ∷ under 40 0x4000_00c0_0000 0x4000_00c0_0000 0
+    -- -1.0 times -1.0 at n = -129, whose product would be in range
+    ∷ under 24 0x8000_0080 0x8000_00ff 0 ∷ under 40 0x8000_0080_0000 0x8000_00ff_0000 0
     -- truncated toward minus infinity
     ∷ plain 24 0x7fff_ff00 0x7fff_ff00 0x7fff_fe00 ∷ plain 24 0x4000_0100 0xbfff_ff00 0xbfff_fdff ∷ plain 40 0x4000_0000_0001 0xbfff_ff00_ffff 0xbfff_ffff_fffd
     -- operands that are not normalised
