@@ -9,7 +9,7 @@ ghost use Rattle.machine.specs.Machine.{Effect};
 ghost use Rattle.machine.specs.Step.{affected};
 use crate::Ending;
 use machine::Core;
-use status::with_cs;
+use status_word::with_cs;
 
 // It is done: IC and CS are set and PI bits added, as by any effect that does so, whatever the registers were.
 pub fn done(core: Core, ic: u16, cs: u16, bits: u16) -> Ending

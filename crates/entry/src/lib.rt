@@ -17,7 +17,7 @@ use page::Span;
 use page::Verdict;
 use page::lookup::check_span;
 use page::lookup::look_up;
-use status::group_of;
+use status_word::group_of;
 use std::num::wrapping_add_u16;
 use storage::write::write_span;
 

@@ -46,9 +46,9 @@ use prepare::prepare;
 use spans::reads;
 use spans::span_from;
 use spans::writes;
-use status::advance;
-use status::group_of;
-use status::key_of;
+use status_word::advance;
+use status_word::group_of;
+use status_word::key_of;
 use system::carry_system;
 
 // The first refusal: all reads, then all writes.

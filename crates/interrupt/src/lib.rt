@@ -1,6 +1,6 @@
 // Which interrupt is entered, and the words that its entry reads (Scope, "One step", 1, and "Entry of n").
 pub mod pending;
-pub mod vector;
+pub mod pointers;
 
 use machine::Vector;
 

@@ -22,7 +22,7 @@ use page::Access;
 use page::Got;
 use page::Place;
 use page::lookup::look_up;
-use status::advance;
+use status_word::advance;
 use storage::read::read_word;
 
 // Who may run an operation: BEX (5.30) calls the executive, XIO (5.1) and LST (5.35) are privileged.

@@ -24,11 +24,11 @@ use entry::arrive;
 use entry::link;
 use instruct::instruct;
 use interrupt::pending::choose;
-use interrupt::vector::vector;
+use interrupt::pointers::vector;
 use machine::Core;
 use moved::Moved;
-use status::group_of;
-use status::key_of;
+use status_word::group_of;
+use status_word::key_of;
 
 // The entry of interrupt n up to its tick, with any registers and ports, however far the core lags.
 fn interrupted(core: Core, memory: &mut [u16], pages: &[u16], n: u16) -> Core

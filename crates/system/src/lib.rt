@@ -25,14 +25,14 @@ use command::transfer;
 use control::load_status;
 use entry::arrive;
 use entry::link;
-use interrupt::vector::call_vector;
+use interrupt::pointers::call_vector;
 use machine::Core;
 use machine::Instruction;
 use machine::Prepared;
 use moved::Moved;
 use moved::deny;
 use moved::unsettled;
-use status::advance;
+use status_word::advance;
 
 // A refused access: its FT bit is b, and IC goes past all words of the instruction.
 fn refuse(core: Core, form: u16, b: u16) -> Core

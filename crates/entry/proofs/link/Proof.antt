@@ -10,7 +10,7 @@ use Rattle.entry.proofs.link.Tie as tie
 use Rattle.entry.proofs.link.Reads as reads
 use Rattle.entry.proofs.link.Lts as lts
 use Rattle.entry.proofs.link_each.Reads as link-each-reads
-use Rattle.status.proofs.group_of.Reads as group-of-reads
+use Rattle.status_word.proofs.group_of.Reads as group-of-reads
 use Rattle.page.proofs.lookup.look_up.Reads as look-up-reads
 use Rattle.std.proofs.num.wrapping_add_u16.Reads as wrapping-add-u16-reads
 

@@ -6,7 +6,7 @@ use Rattle.entry.proofs.link_each.Statement.{statement}
 use Rattle.entry.proofs.link_each.Tie as tie
 use Rattle.entry.proofs.link_each.Reads as reads
 use Rattle.entry.proofs.link_each.Lts as lts
-use Rattle.status.proofs.group_of.Reads as group-of-reads
+use Rattle.status_word.proofs.group_of.Reads as group-of-reads
 use Rattle.page.proofs.lookup.check_span.Reads as check-span-reads
 use Rattle.storage.proofs.write.write_span.Reads as write-span-reads
 

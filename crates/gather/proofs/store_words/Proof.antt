@@ -6,8 +6,8 @@ use Rattle.gather.proofs.store_words.Statement.{statement}
 use Rattle.gather.proofs.store_words.Tie as tie
 use Rattle.gather.proofs.store_words.Reads as reads
 use Rattle.gather.proofs.store_words.Lts as lts
-use Rattle.status.proofs.group_of.Reads as group-of-reads
-use Rattle.status.proofs.key_of.Reads as key-of-reads
+use Rattle.status_word.proofs.group_of.Reads as group-of-reads
+use Rattle.status_word.proofs.key_of.Reads as key-of-reads
 use Rattle.gather.proofs.store_at.Reads as store-at-reads
 use Rattle.std.proofs.num.wrapping_add_u16.Reads as wrapping-add-u16-reads
 

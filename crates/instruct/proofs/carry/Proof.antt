@@ -18,7 +18,7 @@ use Rattle.instruct.proofs.carry_direct.Reads as carry-direct-reads
 use Rattle.system.proofs.carry_system.Reads as carry-system-reads
 use Rattle.moved.proofs.deny.Reads as deny-reads
 use Rattle.instruct.proofs.proceed.Reads as proceed-reads
-use Rattle.status.proofs.advance.Reads as advance-reads
+use Rattle.status_word.proofs.advance.Reads as advance-reads
 use Rattle.gather.proofs.gather.Reads as gather-reads
 
 carry-system-requires : tie.Need-carry-system-requires

@@ -14,7 +14,7 @@ use Rattle.instruct.proofs.carry_direct.Lts as lts
 use Rattle.moved.proofs.deny.Reads as deny-reads
 use Rattle.moved.proofs.weighed.Reads as weighed-reads
 use Rattle.direct.proofs.direct.Reads as direct-reads
-use Rattle.status.proofs.advance.Reads as advance-reads
+use Rattle.status_word.proofs.advance.Reads as advance-reads
 
 direct-requires : tie.Need-direct-requires
 direct-requires c κs = (c .before .before .before .before .pre .0, c .before .before .before .before .pre .1, c .before .before .before .before .pre .2, c .before .before .before .before .pre .3, c .before .before .before .before .pre .4, c .before .before .before .before .pre .5, c .before .before .before .before .pre .6)

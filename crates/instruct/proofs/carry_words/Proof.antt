@@ -17,7 +17,7 @@ use Rattle.block.proofs.block.Reads as block-reads
 use Rattle.moved.proofs.deny.Reads as deny-reads
 use Rattle.instruct.proofs.verify.Reads as verify-reads
 use Rattle.moved.proofs.weighed.Reads as weighed-reads
-use Rattle.status.proofs.advance.Reads as advance-reads
+use Rattle.status_word.proofs.advance.Reads as advance-reads
 
 reads-requires : tie.Need-reads-requires
 reads-requires c κs = block-need (c .before .before .before .args .n .form) (c .before .before .before .pre .1)

@@ -16,7 +16,7 @@ use Rattle.needs.proofs.write_count.Reads as write-count-reads
 use Rattle.needs.proofs.write_start.Reads as write-start-reads
 use Rattle.moved.proofs.deny.Reads as deny-reads
 use Rattle.moved.proofs.weighed.Reads as weighed-reads
-use Rattle.status.proofs.advance.Reads as advance-reads
+use Rattle.status_word.proofs.advance.Reads as advance-reads
 use Rattle.ordinary.proofs.work.Reads as work-reads
 use Rattle.page.proofs.lookup.check_span.Reads as check-span-reads
 

@@ -7,8 +7,8 @@ use Rattle.instruct.proofs.verify.Statement.{statement}
 use Rattle.instruct.proofs.verify.Tie as tie
 use Rattle.instruct.proofs.verify.Reads as reads
 use Rattle.instruct.proofs.verify.Lts as lts
-use Rattle.status.proofs.group_of.Reads as group-of-reads
-use Rattle.status.proofs.key_of.Reads as key-of-reads
+use Rattle.status_word.proofs.group_of.Reads as group-of-reads
+use Rattle.status_word.proofs.key_of.Reads as key-of-reads
 use Rattle.page.proofs.lookup.check_span.Reads as check-span-reads
 
 key-of-requires : tie.Need-key-of-requires

@@ -10,7 +10,7 @@ use Rattle.ordinary.proofs.work.Tie as tie
 use Rattle.ordinary.proofs.work.Reads as reads
 use Rattle.ordinary.proofs.work.Lts as lts
 use Rattle.effect.proofs.apply.Reads as apply-reads
-use Rattle.status.proofs.with_cs.Reads as with-cs-reads
+use Rattle.status_word.proofs.with_cs.Reads as with-cs-reads
 use Rattle.ordinary.proofs.ordinary.Reads as ordinary-reads
 use Rattle.gather.proofs.store_words.Reads as store-words-reads
 

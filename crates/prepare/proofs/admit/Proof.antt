@@ -9,7 +9,7 @@ use Rattle.prepare.proofs.admit.Statement.{statement}
 use Rattle.prepare.proofs.admit.Tie as tie
 use Rattle.prepare.proofs.admit.Reads as reads
 use Rattle.prepare.proofs.admit.Lts as lts
-use Rattle.status.proofs.advance.Reads as advance-reads
+use Rattle.status_word.proofs.advance.Reads as advance-reads
 use Rattle.prepare.proofs.class_of.Reads as class-of-reads
 use Rattle.prepare.proofs.extend.Reads as extend-reads
 use Rattle.prepare.proofs.permit.Reads as permit-reads

@@ -8,7 +8,7 @@ use Rattle.prepare.proofs.extend.Statement.{statement}
 use Rattle.prepare.proofs.extend.Tie as tie
 use Rattle.prepare.proofs.extend.Reads as reads
 use Rattle.prepare.proofs.extend.Lts as lts
-use Rattle.status.proofs.advance.Reads as advance-reads
+use Rattle.status_word.proofs.advance.Reads as advance-reads
 use Rattle.prepare.proofs.derive.Reads as derive-reads
 use Rattle.prepare.proofs.second_word.Reads as second-word-reads
 

@@ -12,7 +12,7 @@ use Rattle.prepare.proofs.prepare.Tie as tie
 use Rattle.prepare.proofs.prepare.Reads as reads
 use Rattle.prepare.proofs.prepare.Lts as lts
 use Rattle.decode.proofs.decode_with.Reads as decode-with-reads
-use Rattle.status.proofs.advance.Reads as advance-reads
+use Rattle.status_word.proofs.advance.Reads as advance-reads
 use Rattle.page.proofs.lookup.look_up.Reads as look-up-reads
 use Rattle.prepare.proofs.admit.Reads as admit-reads
 

@@ -7,7 +7,7 @@ use Rattle.prepare.proofs.redirect.Statement.{statement}
 use Rattle.prepare.proofs.redirect.Tie as tie
 use Rattle.prepare.proofs.redirect.Reads as reads
 use Rattle.prepare.proofs.redirect.Lts as lts
-use Rattle.status.proofs.advance.Reads as advance-reads
+use Rattle.status_word.proofs.advance.Reads as advance-reads
 use Rattle.prepare.proofs.ready.Reads as ready-reads
 
 enum-known-got : tie.Need-enum-known-got

@@ -13,7 +13,7 @@ use Rattle.prepare.proofs.second_word.Statement.{statement}
 use Rattle.prepare.proofs.second_word.Tie as tie
 use Rattle.prepare.proofs.second_word.Reads as reads
 use Rattle.prepare.proofs.second_word.Lts as lts
-use Rattle.status.proofs.advance.Reads as advance-reads
+use Rattle.status_word.proofs.advance.Reads as advance-reads
 use Rattle.storage.proofs.read.read_word.Reads as read-word-reads
 
 advance-requires : tie.Need-advance-requires

@@ -12,7 +12,7 @@ use Rattle.steps.proofs.interrupted.Lts as lts
 use Rattle.entry.proofs.arrive.Reads as arrive-reads
 use Rattle.entry.proofs.link.Reads as link-reads
 use Rattle.clock.proofs.time.release.Reads as release-reads
-use Rattle.interrupt.proofs.vector.vector.Reads as vector-reads
+use Rattle.interrupt.proofs.pointers.vector.Reads as vector-reads
 
 vector-requires : tie.Need-vector-requires
 vector-requires c κs = search needs

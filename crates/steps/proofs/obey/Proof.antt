@@ -21,8 +21,8 @@ use Rattle.steps.proofs.obey.Lts as lts
 use Rattle.instruct.proofs.instruct.Reads as instruct-reads
 use Rattle.steps.proofs.end_of.Reads as end-of-reads
 use Rattle.steps.proofs.ended.Reads as ended-reads
-use Rattle.status.proofs.group_of.Reads as group-of-reads
-use Rattle.status.proofs.key_of.Reads as key-of-reads
+use Rattle.status_word.proofs.group_of.Reads as group-of-reads
+use Rattle.status_word.proofs.key_of.Reads as key-of-reads
 use Rattle.clock.proofs.time.release.Reads as release-reads
 
 abbrev Inv-loop : tie.InvT-loop

@@ -12,8 +12,8 @@ use Rattle.system.proofs.call.Reads as reads
 use Rattle.system.proofs.call.Lts as lts
 use Rattle.entry.proofs.arrive.Reads as arrive-reads
 use Rattle.entry.proofs.link.Reads as link-reads
-use Rattle.status.proofs.advance.Reads as advance-reads
-use Rattle.interrupt.proofs.vector.call_vector.Reads as call-vector-reads
+use Rattle.status_word.proofs.advance.Reads as advance-reads
+use Rattle.interrupt.proofs.pointers.call_vector.Reads as call-vector-reads
 
 call-vector-requires : tie.Need-call-vector-requires
 call-vector-requires c κs = search needs

@@ -15,7 +15,7 @@ use Rattle.control.proofs.load_status.Reads as load-status-reads
 use Rattle.moved.proofs.deny.Reads as deny-reads
 use Rattle.moved.proofs.unsettled.Reads as unsettled-reads
 use Rattle.accumulate.proofs.operand.read_operand.Reads as read-operand-reads
-use Rattle.status.proofs.advance.Reads as advance-reads
+use Rattle.status_word.proofs.advance.Reads as advance-reads
 
 read-operand-requires : tie.Need-read-operand-requires
 read-operand-requires c κs = search needs

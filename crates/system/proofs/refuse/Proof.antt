@@ -5,7 +5,7 @@ use Rattle.system.proofs.refuse.Statement.{statement}
 use Rattle.system.proofs.refuse.Tie as tie
 use Rattle.system.proofs.refuse.Reads as reads
 use Rattle.system.proofs.refuse.Lts as lts
-use Rattle.status.proofs.advance.Reads as advance-reads
+use Rattle.status_word.proofs.advance.Reads as advance-reads
 use Rattle.clock.proofs.time.fault.Reads as fault-reads
 
 advance-requires : tie.Need-advance-requires

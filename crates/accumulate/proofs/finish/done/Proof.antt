@@ -7,7 +7,7 @@ use Rattle.accumulate.proofs.finish.done.Statement.{statement}
 use Rattle.accumulate.proofs.finish.done.Tie as tie
 use Rattle.accumulate.proofs.finish.done.Reads as reads
 use Rattle.accumulate.proofs.finish.done.Lts as lts
-use Rattle.status.proofs.with_cs.Reads as with-cs-reads
+use Rattle.status_word.proofs.with_cs.Reads as with-cs-reads
 
 with-cs-requires : tie.Need-with-cs-requires
 with-cs-requires c κs = search needs

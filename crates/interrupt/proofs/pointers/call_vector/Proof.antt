@@ -1,0 +1,89 @@
+-- `interrupt::pointers::call_vector` meets its contract. Assumes nothing.
+use mathlib.Core.Path.{refl}
+use Rattle.machine.specs.Entries.{callOf}
+use Rattle.page.specs.Spans.{wrapped}
+use borrow.Author.Needs.{needs}
+use Rattle.interrupt.proofs.pointers.call_vector.Statement.{statement}
+use Rattle.interrupt.proofs.pointers.call_vector.Tie as tie
+
+read-zero-requires : tie.Need-read-zero-requires
+read-zero-requires c κs = search needs
+
+word-of-requires : tie.Need-word-of-requires
+word-of-requires c κs = search needs
+
+read-zero-requires-2 : tie.Need-read-zero-requires-2
+read-zero-requires-2 c κs = search needs
+
+wrapping-add-u16-requires : tie.Need-wrapping-add-u16-requires
+wrapping-add-u16-requires c κs = search needs
+
+read-zero-requires-3 : tie.Need-read-zero-requires-3
+read-zero-requires-3 c κs = search needs
+
+add-wrapping-add-u16 : tie.Need-add-wrapping-add-u16
+add-wrapping-add-u16 c = search needs
+
+wrapping-add-u16-requires-2 : tie.Need-wrapping-add-u16-requires-2
+wrapping-add-u16-requires-2 c κs = search needs
+
+read-zero-requires-4 : tie.Need-read-zero-requires-4
+read-zero-requires-4 c κs = search needs
+
+read-zero-requires-5 : tie.Need-read-zero-requires-5
+read-zero-requires-5 c κs = search needs
+
+fault-of-requires : tie.Need-fault-of-requires
+fault-of-requires c κs = search needs
+
+fault-of-requires-2 : tie.Need-fault-of-requires-2
+fault-of-requires-2 c κs = search needs
+
+fault-of-requires-3 : tie.Need-fault-of-requires-3
+fault-of-requires-3 c κs = search needs
+
+fault-of-requires-4 : tie.Need-fault-of-requires-4
+fault-of-requires-4 c κs = search needs
+
+word-of-requires-2 : tie.Need-word-of-requires-2
+word-of-requires-2 c κs = search needs
+
+word-of-requires-3 : tie.Need-word-of-requires-3
+word-of-requires-3 c κs = search needs
+
+word-of-requires-4 : tie.Need-word-of-requires-4
+word-of-requires-4 c κs = search needs
+
+word-of-requires-5 : tie.Need-word-of-requires-5
+word-of-requires-5 c κs = search needs
+
+fault-of-requires-5 : tie.Need-fault-of-requires-5
+fault-of-requires-5 c κs = search needs
+
+returns : tie.Need-returns
+unfolding callOf wrapped
+returns c = rw (← c .before .before .before .before .before .before .before .before .before .before .before .before .before .before .before .before .read-zero .ensures, ← c .before .before .before .before .before .before .before .before .before .before .before .before .before .before .before .word-of .ensures, ← c .before .before .before .before .before .before .before .before .before .before .before .before .before .before .read-zero2 .ensures, ← c .before .before .before .before .before .before .before .before .before .before .before .before .before .wrapping-add-u16 .ensures, ← c .before .before .before .before .before .before .before .before .before .before .before .before .read-zero3 .ensures, ← c .before .before .before .before .before .before .before .before .before .before .before .wrapping-add-u162 .ensures, ← c .before .before .before .before .before .before .before .before .before .before .read-zero4 .ensures, ← c .before .before .before .before .before .before .before .before .before .read-zero5 .ensures, ← c .before .before .before .before .before .before .before .before .fault-of .ensures, ← c .before .before .before .before .before .before .before .fault-of2 .ensures, ← c .before .before .before .before .before .before .fault-of3 .ensures, ← c .before .before .before .before .before .fault-of4 .ensures, ← c .before .before .before .before .word-of2 .ensures, ← c .before .before .before .word-of3 .ensures, ← c .before .before .word-of4 .ensures, ← c .before .word-of5 .ensures, ← c .fault-of5 .ensures) refl
+
+pub call-vector-spec : {M : Type 1} → statement M
+call-vector-spec =
+    tie.close
+    (tie.spec
+    read-zero-requires
+    word-of-requires
+    read-zero-requires-2
+    wrapping-add-u16-requires
+    read-zero-requires-3
+    add-wrapping-add-u16
+    wrapping-add-u16-requires-2
+    read-zero-requires-4
+    read-zero-requires-5
+    fault-of-requires
+    fault-of-requires-2
+    fault-of-requires-3
+    fault-of-requires-4
+    word-of-requires-2
+    word-of-requires-3
+    word-of-requires-4
+    word-of-requires-5
+    fault-of-requires-5
+    returns)
