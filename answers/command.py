@@ -1,30 +1,10 @@
 # The answers from which the proofs of the crate `command` are written.
-EQUATIONS = 'mathlib.Core.Path.{_≡_, refl, sym, ap, _∙_}'
-LISTS = 'mathlib.Core.List.{List, [], _∷_}'
-TESTS = 'borrow.Author.Tests.{eq-eqb, ne-eqb, lt-ltb, le-ltb, le-leb, lt-leb}'
 NUMBERS = 'lib.Dec.{ltb, leb}'
-OMEGA = 'native.Mathlib.Omega.{arith}'
-STATE = 'Rattle.machine.specs.State.'
 COMMANDS = 'Rattle.isa.specs.Commands.'
 OUTCOME = 'Rattle.command.specs.Outcome.'
-CHOICE = 'Rattle.choice.proofs.SelectLaws.{otherwise}'
 LAWS = 'Rattle.command.proofs.CommandLaws.{unlisted, past-outputs, same}'
 
-
-# a function and the definitions, each `place names ..`, that its returns unfold
-def by(*unfolded, use=(), **answers):
-    names = [part.split()[1:] for part in unfolded]
-    made = {'use': [EQUATIONS] + list(use) + [part.split()[0] + '{%s}' % ', '.join(part.split()[1:]) for part in unfolded],
-            'unf': {'*': ' '.join(sum(names, []))}}
-    made.update({need.replace('_', '-'): answer for need, answer in answers.items()})
-    return made
-
-
-# rules by their numbers
-def rules(numbers):
-    return '(%s[])' % ''.join('(%s, _) ∷ ' % number for number in numbers.split())
-
-
+# the commands
 OUTPUTS = '0x2000 0x2001 0x2002 0x2003 0x2004 0x2005 0x200E 0x4008 0x4009 0x400A 0x400C 0x400D 0x400E'
 INPUTS = '0xA000 0xA004 0xA00E 0xA00F 0xC00A 0xC00E'
 CALLS = ['set-mask', 'set-pending', 'set-enabled', 'set-enabled2', 'reset-pending', 'hold-pending', 'set-status',
@@ -49,39 +29,27 @@ def input_of(tests, answer):
 
 
 A = {
-    'parts/resume': by(COMMANDS + ' resumed', STATE + ' withIc advanced', 'Rattle.machine.specs.Machine. nextOf', returns='λ regs. rw (← @following .ensures) refl'),
-    'parts/load_status': by(COMMANDS + ' statusLoaded', STATE + ' withIc withSw withMk', returns='λ regs. refl'),
-    'parts/set_mask': by(STATE + ' withMk', returns='λ regs. refl'),
-    'parts/set_status': by(STATE + ' withSw', returns='λ regs. refl'),
-    'parts/set_pending': by(STATE + ' withPi withFt', returns='λ regs. refl'),
-    'parts/hold_pending': by(STATE + ' withPi withHold', returns='λ regs. refl'),
-    'parts/reset_pending': by(COMMANDS + ' pendingReset', STATE + ' withPi withFt', use=[TESTS],
-        returns='λ regs. rw (← @reset-bit .ensures, eq-eqb _ _ (@if1 .taken)) (@set-pending .ensures regs)',
-        returns_2='λ regs. rw (← @reset-bit .ensures, ne-eqb _ _ (@if1 .left)) (@set-pending2 .ensures regs)'),
-    'parts/set_enabled': by(STATE + ' withEnabled withHold', returns='λ regs. refl'),
-    'parts/set_timer_a': by(STATE + ' withTa withTaOn', returns='λ regs. refl'),
-    'parts/set_timer_b': by(STATE + ' withTb withTbOn', returns='λ regs. refl'),
-    'xio/state_output': by(OPENED, OUTCOME + ' governed', use=[LISTS, CHOICE, TESTS, NUMBERS, LAWS, STATE + '{withEnabled, withHold, withTa, withTb, withTaOn, withTbOn}'],
+    'xio/state_output': by(OPENED, OUTCOME + ' governed', use=[LISTS, OTHERWISE, COMPARISONS, NUMBERS, LAWS, STATE + '{withEnabled, withHold, withTa, withTb, withTaOn, withTbOn}'],
         **{returns(i + 1): 'λ regs g o n. rw (@match .keys%d) (ap (becomes g o) (@%s .ensures regs))' % (i + 1, call) for i, call in enumerate(CALLS)},
-        returns_14='λ regs g o n. sym (otherwise (@args .command) %s _ (@match .rest) ∙ unlisted (leb 0x8000) (@args .command) %s _ refl (lt-leb _ _ (@Start .pre)))' % (rules(OUTPUTS), rules(INPUTS))),
-    'xio/output': by(COMMANDS + ' commanded becomes', OUTCOME + ' governed Kept', use=[TESTS, OMEGA, LAWS],
+        returns_14='λ regs g o n. sym (%s ∙ unlisted (leb 0x8000) (@args .command) %s _ refl (lt-leb _ _ (@Start .pre)))' % (rest('(@args .command)', OUTPUTS), rules(INPUTS))),
+    'xio/output': by(COMMANDS + ' commanded becomes', OUTCOME + ' governed Kept', use=[COMPARISONS, OMEGA, LAWS],
         returns='(λ regs n. rw (%s) refl, tt, tt)' % ranges(0),
         returns_2='(λ regs n. rw (%s) (@state-output .ensures regs _ _ n), same (@state-output .result) _, same (@state-output .result) _)' % ranges(1),
         returns_3='(λ regs n. rw (%s) refl, tt, tt)' % ranges(2),
         returns_4='(λ regs n. rw (%s) refl, tt, tt)' % ranges(3),
         returns_5='(λ regs n. rw (%s, le-leb (@args .command) 0x7FFF (omega (arith, @Start .pre .2))) (@state-output2 .ensures regs _ _ n), same (@state-output2 .result) _, same (@state-output2 .result) _)' % ranges(4, False)),
     'xio/take': by(returns='rw (← @field-a .ensures .0) (@put .ensures)'),
-    'xio/state_input': by(COMMANDS + ' stateCommand becomes withRa faultsRead', OUTCOME + ' governed Kept', STATE + ' withRegs', use=[LISTS, CHOICE, TESTS, NUMBERS, LAWS],
+    'xio/state_input': by(COMMANDS + ' stateCommand becomes withRa faultsRead', OUTCOME + ' governed Kept', STATE + ' withRegs', use=[LISTS, OTHERWISE, COMPARISONS, NUMBERS, LAWS],
         **{returns(i): '(λ g o ra. rw (@match .keys%d, ← @take%s .ensures) refl, tt)' % (i, i if i > 1 else '') for i in (1, 2, 3, 5, 6)},
         returns_4='(λ g o ra. rw (@match .keys4, ← @reset-bit .ensures, ← @take4 .ensures) (ap (becomes g o) (@set-pending .ensures _)), tt)',
-        returns_7='(λ g o ra. sym (unlisted (λ k. ltb k 0x8000) (@args .n .address) %s _ refl (le-ltb _ _ (@Start .pre)) ∙ otherwise (@args .n .address) %s _ (@match .rest)), refl)' % (rules(OUTPUTS), rules(INPUTS))),
-    'xio/input': by(COMMANDS + ' commanded becomes withRa', OUTCOME + ' governed Kept', STATE + ' withRegs', use=[TESTS, LAWS],
+        returns_7='(λ g o ra. sym (unlisted (λ k. ltb k 0x8000) (@args .n .address) %s _ refl (le-ltb _ _ (@Start .pre)) ∙ %s), refl)' % (rules(OUTPUTS), rest('(@args .n .address)', INPUTS))),
+    'xio/input': by(COMMANDS + ' commanded becomes withRa', OUTCOME + ' governed Kept', STATE + ' withRegs', use=[COMPARISONS, LAWS],
         returns='(%s, tt)' % input_of(ranges(0) + ', ← @take .ensures', ' refl'),
         returns_2='(%s, @state-input .ensures .1)' % input_of(ranges(1), ' (@state-input .ensures .0 _ _ ra)'),
         returns_3='(%s, tt)' % input_of(ranges(2) + ', ← @take2 .ensures', ' refl'),
         returns_4='(%s, tt)' % input_of(ranges(3) + ', ← @take3 .ensures', ' refl'),
         returns_5='(%s, @state-input2 .ensures .1)' % input_of(ranges(4, False), ' (@state-input2 .ensures .0 _ _ ra)')),
-    'transfer': by(OUTCOME + ' governed Kept', use=[TESTS, LAWS],
+    'transfer': by(OUTCOME + ' governed Kept', use=[COMPARISONS, LAWS],
         returns='(rw (← @resume .ensures _, ← @field-a .ensures .0, ← @get .ensures) (@output .ensures .0 _ _), same (@output .result) _, @output .ensures .1, @output .ensures .2)',
         returns_2='(rw (← @resume .ensures _, ← @field-a .ensures .0, ← @get .ensures) (@input .ensures .0 _), @input .ensures .1, same (@input .result) _, same (@input .result) _)'),
 }

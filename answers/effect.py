@@ -1,9 +1,6 @@
 # The answers from which the proofs of the crate `effect` are written.
-USE = ['mathlib.Core.Path.{_≡_, refl, sym, ap, _∙_}', 'Prim.Native.Nat.{_/_, _%_}']
+USE = [EQUATIONS, 'Prim.Native.Nat.{_/_, _%_}']
 WORK = 'Rattle.effect.specs.Work.'
-EFFECTS = 'Rattle.isa.specs.Effects.'
-TESTS = 'borrow.Author.Tests.'
-A = {}
 
 
 # a shape that gives its scalars: the definitions are opened to the effect, calls folded back
@@ -22,11 +19,11 @@ def case(names, variables, calls, last):
 NEXT = '← @following .ensures'
 CS = '← @cs-of .ensures'
 A = {
-    'following': {'use': ['Rattle.page.specs.Spans.{wrapped}'], 'unf': {'*': 'wrapped'}, 'returns': '@wrapping-add-u16 .ensures'},
-    'cs_of': {'use': ['Rattle.machine.specs.State.{csOf}'], 'unf': {'*': 'csOf'}, 'returns': 'refl'},
+    'following': {'use': [SPANS + '{wrapped}'], 'unf': {'*': 'wrapped'}, 'returns': '@wrapping-add-u16 .ensures'},
+    'cs_of': {'use': [STATE + '{csOf}'], 'unf': {'*': 'csOf'}, 'returns': 'refl'},
     'fixed_overflow': {'use': [EFFECTS + '{fixedOverflow}'], 'unf': {'*': 'fixedOverflow'}, 'returns': 'cc', 'returns-2': 'cc'},
     'float_faults': {'use': [EFFECTS + '{floatFaults}'], 'unf': {'*': 'floatFaults'}, 'returns': 'cc', 'returns-2': 'cc', 'returns-3': 'cc'},
-    'apply': {'use': [WORK + '{filled}', 'Rattle.isa.specs.Fields.{withRegisters, withRegister}', 'Rattle.effect.proofs.WorkLaws.{all-three}'],
+    'apply': {'use': [WORK + '{filled}', FIELDS + '{withRegisters, withRegister}', 'Rattle.effect.proofs.WorkLaws.{all-three}'],
         'unf': {'*': 'filled withRegisters withRegister'}, 'returns': 'rw (@if1 .taken) refl', 'returns-2': 'rw (@if2 .taken) refl', 'returns-3': 'rw (@if3 .taken) refl',
         'returns-4': 'rw (all-three _ (@args .e .v0) (@args .e .v1) (@args .e .v2) (@if1 .left) (@if2 .left) (@if3 .left)) refl'},
     'shapes/result1': literal('result', 'regs sw', NEXT),
@@ -38,7 +35,7 @@ A = {
     'shapes/modified': literal('modified', 'regs sw', NEXT),
     'shapes/tested': case('tested result modified', 'regs sw', [], 'modified'),
     'shapes/stored': literal('stored', 'regs', NEXT + ', ' + CS),
-    'shapes/replaced': {'use': [TESTS + '{eq-eqb, ne-eqb}', EFFECTS + '{replaced}', 'Rattle.isa.specs.Addressing.{isRegister}', 'Rattle.isa.specs.Fields.{fieldB}'],
+    'shapes/replaced': {'use': [TESTS, EFFECTS + '{replaced}', ADDRESSING + '{isRegister}', FIELDS + '{fieldB}'],
         'unf': {'*': 'replaced isRegister fieldB'},
         'returns': 'λ regs. rw (eq-eqb _ _ (@if1 .taken)) (@loaded .ensures regs)', 'returns-2': 'λ regs. rw (ne-eqb _ _ (@if1 .left)) (@stored .ensures regs)'},
     'shapes/jumped': {'use': [WORK + '{worked, filled}', EFFECTS + '{effect, jumped, nothing}'], 'unf': {'*': 'worked filled effect jumped', 'returns-2': 'jumped nothing'},

@@ -1,16 +1,11 @@
 # The answers from which the proofs of the crate `execute_integers` are written.
-USE = ['mathlib.Core.Path.{_≡_, refl, sym, ap, _∙_}', 'Prim.Native.Nat.{_/_, _%_, _+_}', 'borrow.Author.Tests.{ne-eqb}', 'native.Mathlib.Omega.{arith}']
+USE = ARITHMETIC
 INTEGERS = 'Rattle.isa.specs.Integers.'
 DOUBLES = 'Rattle.execute_integers.specs.Doubles.{arithmetic}'
 LAWS = 'Rattle.execute_integers.proofs.OutcomeLaws.'
 
 # what the arms of a match share: RA's number, the accumulator's, the single operand
 LETS = {'a': '← @field-a .ensures .0', 'k': '← @accumulator-of .ensures .0', 'o': '← @operand-of .ensures'}
-
-
-# none of the numbers before
-def others(count):
-    return ', '.join('ne-eqb _ _ (@match .rest%s .1)' % (' .0' * i) for i in reversed(range(count)))
 
 
 # an operation: for each arm the shared facts, the calls for the operands, the arithmetic and the shape; nth counts a function's calls
@@ -36,7 +31,7 @@ def operation(definition, rows, opened=''):
 
 
 A = {
-    'outcomes/pair_at': {'use': ['Rattle.isa.specs.Words.{registerPair}'], 'unf': {'*': 'registerPair'}, 'returns': 'rw (← @get .ensures, ← @get2 .ensures) (@join .ensures)'},
+    'outcomes/pair_at': {'use': [WORDS + '{registerPair}'], 'unf': {'*': 'registerPair'}, 'returns': 'rw (← @get .ensures, ← @get2 .ensures) (@join .ensures)'},
     'outcomes/single_outcome': {'use': [LAWS + '{single-is}'], 'returns': 'λ regs sw o e. @result1 .ensures regs sw ∙ single-is _ _ _ _ _ _ e (@fixed-overflow .ensures)'},
     'outcomes/double_outcome': {'use': [LAWS + '{double-is}'],
         'returns': 'λ regs sw o e. @result2 .ensures regs sw ∙ double-is _ _ _ _ _ _ _ _ e (@fixed-overflow .ensures) (@high .ensures) (@low .ensures)'},

@@ -1,25 +1,7 @@
 # The answers from which the proofs of the crate `prepare` are written.
-EQUATIONS = 'mathlib.Core.Path.{_≡_, refl, sym, ap, _∙_}'
-TESTS = 'borrow.Author.Tests.{eq-eqb, ne-eqb}'
-BOUNDS = 'borrow.Author.Tests.{lt-ltb, le-ltb}'
-OMEGA = 'native.Mathlib.Omega.{arith}'
-SPANS = 'Rattle.page.specs.Spans.'
-STATE = 'Rattle.machine.specs.State.'
 STAGES = 'Rattle.machine.specs.Instructions.'
-ISA = 'Rattle.isa.specs.Mil1750.'
-FORMS = 'Rattle.decode.specs.Forms.'
 LAWS = 'Rattle.prepare.proofs.PrepareLaws.{granted-second}'
 NEXT = 'Rattle.page.proofs.NearLaws.{lookup-next}'
-INSIDE = 'Rattle.page.proofs.ReachLaws.{located-inside}'
-
-
-# a function and the definitions, each `place names ..`, that its returns unfold
-def by(*unfolded, use=(), **answers):
-    names = [part.split()[1:] for part in unfolded]
-    made = {'use': [EQUATIONS] + list(use) + [part.split()[0] + '{%s}' % ', '.join(part.split()[1:]) for part in unfolded],
-            'unf': {'*': ' '.join(sum(names, []))}}
-    made.update({need.replace('_', '-'): answer for need, answer in answers.items()})
-    return made
 
 
 # the key and the group are those of SW
@@ -29,7 +11,7 @@ ADMITTED = 'ne-eqb _ _ (@if1 .left), ' + KEYED + ', ← @class-of .ensures, ← 
 # the second word follows the first in its page; the first is inside the memory
 FOLLOWING = 'eq-eqb _ _ (@if1 .taken), lookup-next _ _ _ _ _ (@args .ic) (omega arith) _ (@Start .pre .2)'
 NEXT_BOUND = '(@args .at + 1) (length (@args .memory .now)) (omega arith)'
-FIRST = 'located-inside _ _ _ _ _ _ _ _ (@look-up .ensures) (@first .given .1)'
+FIRST = inside('first')
 
 A = {
     'class_of': by(ISA + ' classOf', FORMS + ' privilegedOperations', use=[TESTS, OMEGA], arms='@arm',
@@ -43,7 +25,7 @@ A = {
     'derive': by(STAGES + ' derived', ISA + ' mil1750', use=[TESTS],
         returns='rw (eq-eqb _ _ (@if1 .taken), ← @derive .ensures, ' + KEYED + ', ← @read-word .ensures) (@redirect .ensures (@args .regs .now))',
         returns_2='rw (ne-eqb _ _ (@if1 .left), ← @derive .ensures) (@ready .ensures)'),
-    'second_word': by(SPANS + ' gotAt', use=['Prim.Native.Nat.{_+_}', 'lib.ListN.{length}', TESTS, BOUNDS, OMEGA, INSIDE, NEXT],
+    'second_word': by(SPANS + ' gotAt', use=['Prim.Native.Nat.{_+_}', LENGTH, TESTS, LIMITS, OMEGA, LOCATED, NEXT],
         returns='rw (eq-eqb _ _ (@if1 .taken), ← @advance .ensures) (@read-word .ensures)',
         add_next='omega (arith, located-inside _ _ _ _ _ _ _ _ (sym (@Start .pre .2)) refl)',
         returns_2='rw (%s, lt-ltb %s) refl' % (FOLLOWING, NEXT_BOUND), returns_3='rw (%s, le-ltb %s) refl' % (FOLLOWING, NEXT_BOUND),
@@ -53,7 +35,7 @@ A = {
     'admit': by(STAGES + ' decoded granted', STATE + ' advanced', ISA + ' mil1750', use=[TESTS],
         returns='rw (eq-eqb _ _ (@if1 .taken), ← @advance .ensures) refl',
         returns_2='rw (%s) (@extend .ensures)' % (ADMITTED + ', @if2 .taken' + BACK), returns_3='rw (%s, @if2 .left, ← @advance2 .ensures) refl' % ADMITTED),
-    'prepare': by(STAGES + ' prepared fetched', STATE + ' advanced', ISA + ' mil1750', SPANS + ' gotAt', use=[OMEGA, INSIDE],
+    'prepare': by(STAGES + ' prepared fetched', STATE + ' advanced', ISA + ' mil1750', SPANS + ' gotAt', use=[OMEGA, LOCATED],
         mul_w='omega (arith, %s)' % FIRST, shared_slice_read_w=FIRST,
         admit_requires='search (needs, sym (@look-up .ensures) ∙ @first .given .1)',
         returns='rw (' + KEYED + ', ← @look-up .ensures, @first .given .1, ← @decode-with .ensures' + BACK + ') (@admit .ensures)',

@@ -1,10 +1,7 @@
 # The answers from which the proofs of the crate `report` are written.
-EQUATIONS = 'mathlib.Core.Path.{_≡_, refl, sym, ap, _∙_}'
 NAT = 'Prim.Native.Nat.{_+_, _*_, _-_, _≤_}'
-OMEGA = 'native.Mathlib.Omega.{arith}'
 REPORT = 'Rattle.report.specs.Report.'
 LAWS = 'Rattle.report.proofs.WroteLaws.'
-TESTS = 'borrow.Author.Tests.{lt-ltb, le-ltb}'
 
 
 # the texts of calls one after another
@@ -26,7 +23,6 @@ def numbered(name, n):
 
 
 A = {
-    'text/store': {'use': [EQUATIONS], 'returns': 'refl'},
     'text/put': {'use': [OMEGA, EQUATIONS, LAWS + '{wrote-one}'], 'store-requires': 'omega (arith, @store-arg .given)',
         'returns': '(wrote-one _ _ _ _ (@store .ensures) (omega (arith, @store-arg .given)), refl)'},
     'text/put_bytes': {'use': [OMEGA, NAT, EQUATIONS, 'lib.ListN.{length, take}', REPORT + '{Wrote}', LAWS + '{wrote-none, wrote-more, wrote-all}'], 'default': 'omega arith',
@@ -34,10 +30,10 @@ A = {
         'loop-holds': '(omega arith, wrote-none _ _, omega arith)',
         'loop-again': '(omega arith, wrote-more _ _ (@loop-test .taken) (@loop .inv .1) (@put .ensures .0), omega arith)',
         'returns': '(wrote-all _ (@loop .n) (omega arith) (@loop .inv .1), omega arith)'},
-    'text/digit': {'use': [EQUATIONS, TESTS, REPORT + '{digit}'], 'unf': {'*': 'digit'},
+    'text/digit': {'use': [EQUATIONS, LIMITS, REPORT + '{digit}'], 'unf': {'*': 'digit'},
         'returns': 'rw (lt-ltb _ _ (@if1 .taken)) refl', 'returns-2': 'rw (le-ltb _ _ (@if1 .left)) refl'},
     'text/put_hex': row('hex', *numbered('put', 4), digits=numbered('digit', 4)),
-    'text/put_leading': {'use': [OMEGA, EQUATIONS, TESTS, REPORT + '{leading}', LAWS + '{wrote-none}'], 'unf': {'*': 'leading'},
+    'text/put_leading': {'use': [OMEGA, EQUATIONS, LIMITS, REPORT + '{leading}', LAWS + '{wrote-none}'], 'unf': {'*': 'leading'},
         'returns': 'rw (lt-ltb _ _ (@if1 .taken)) (wrote-none _ _, omega arith)', 'returns-2': 'rw (le-ltb _ _ (@if1 .left)) (@put .ensures .0, omega arith)'},
     'text/put_decimal': row('decimal', *numbered('put-leading', 9), 'put', facts=numbered('put-leading', 9)),
     'put_steps': row('stepsLine', 'put-bytes', 'put-decimal', 'put'),

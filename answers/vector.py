@@ -1,12 +1,6 @@
 # The answers from which the proofs of the crate `vector` are written.
-EQUATIONS = 'mathlib.Core.Path.{_≡_, refl, sym, ap, _∙_}'
-LISTS = 'mathlib.Core.List.{[], _∷_}'
 NAT = 'Prim.Native.Nat.{ℕ, _+_, _*_, _-_, _≤_, _<_}'
-OMEGA = 'native.Mathlib.Omega.{arith}'
-TESTS = 'borrow.Author.Tests.{eq-eqb, ne-eqb, lt-ltb, le-ltb, le-leb, lt-leb}'
-OTHERWISE = 'Rattle.choice.proofs.SelectLaws.{otherwise}'
 LINES = 'Rattle.vector.specs.Lines.'
-FIELDS = 'Rattle.vector.specs.Fields.'
 CHANGES = 'Rattle.vector.specs.Changes.'
 CHANGE_LAWS = 'Rattle.vector.proofs.ChangeLaws.'
 TEXTS = 'Rattle.vector.specs.Texts.'
@@ -61,24 +55,23 @@ def line(unfolds, *calls, back=''):
 
 
 A = {
-    'lines/digit': {'use': [EQUATIONS, OMEGA, TESTS, LINES + '{digitOf}'], 'unf': {'*': 'digitOf'},
+    'lines/digit': {'use': [EQUATIONS, OMEGA, COMPARISONS, LINES + '{digitOf}'], 'unf': {'*': 'digitOf'},
         **tested('<<<<', bounded)},
-    'lines/word': {'use': [EQUATIONS, OMEGA, TESTS, LINES + '{digitOf, given, wordOf}'], 'unf': {'*': 'given wordOf'},
+    'lines/word': {'use': [EQUATIONS, OMEGA, COMPARISONS, LINES + '{digitOf, given, wordOf}'], 'unf': {'*': 'given wordOf'},
         **tested('<<<<', with_digits)},
-    'lines/size': {'use': [EQUATIONS, OMEGA, LISTS, OTHERWISE, LINES + '{sizeOf}'], 'unf': {'*': 'sizeOf'}, 'arms': '(@arm, omega arith)',
-        'returns-7': '(sym (otherwise (@args .kind) ((83, _) ∷ (77, _) ∷ (80, _) ∷ (79, _) ∷ (76, _) ∷ (71, _) ∷ []) _ (@match .rest)), omega arith)'},
-    'lines/limit': {'use': [EQUATIONS, OMEGA, TESTS, LINES + '{limitOf}'], 'unf': {'*': 'limitOf'},
+    'lines/size': {'use': [EQUATIONS, OMEGA, 'mathlib.Core.List.{[], _∷_}', OTHERWISE, LINES + '{sizeOf}'], 'unf': {'*': 'sizeOf'}, 'arms': '(@arm, omega arith)',
+        'returns-7': '(sym (%s), omega arith)' % rest('(@args .kind)', '83 77 80 79 76 71')},
+    'lines/limit': {'use': [EQUATIONS, OMEGA, COMPARISONS, LINES + '{limitOf}'], 'unf': {'*': 'limitOf'},
         **tested('≠==', bounded)},
-    'lines/read': {'use': [EQUATIONS, OMEGA, TESTS, LINES + '{entryOf, lineOf}'], 'unf': {'*': 'entryOf lineOf'},
+    'lines/read': {'use': [EQUATIONS, OMEGA, COMPARISONS, LINES + '{entryOf, lineOf}'], 'unf': {'*': 'entryOf lineOf'},
         **tested('==≠≠≠≤<', with_words)},
     'set/put': {'use': [EQUATIONS, 'lib.Seq.{set-out}'], 'returns': 'refl', 'returns-2': 'sym (set-out _ _ _ (@if1 .left))'},
-    'set/state': {'use': [EQUATIONS, FIELDS + '{withWord}'], 'unf': {'*': 'withWord'}, 'returns': 'rw (@unpack .ensures, @put .ensures, @pack .ensures) refl'},
+    'set/state': {'use': [EQUATIONS, 'Rattle.vector.specs.Fields.{withWord}'], 'unf': {'*': 'withWord'}, 'returns': 'rw (@unpack .ensures, @put .ensures, @pack .ensures) refl'},
     'text/case_line': line('caseLine', 'put-bytes', 'put-decimal', 'put-bytes2', 'put-decimal2', 'put'),
     'text/time_line': line('timeLine', 'put-bytes', 'put-hex', 'put-bytes2', 'put-hex2', 'put-bytes3', 'put-hex3', 'put-bytes4', 'put-decimal', 'put', back='rw (← @marks .ensures) '),
     'text/entry_line': line('entryLine', 'put', 'put2', 'put-hex', 'put3', 'put-hex2', 'put4'),
     'text/numbered_line': line('numberedLine', 'put-bytes', 'put-decimal', 'put'),
-    'compare/least': {'use': [EQUATIONS, OMEGA]},
-    'compare/next': {'use': [EQUATIONS, NAT, OMEGA, 'lib.ListN.{length}', CHANGES + '{nextChanged}', CHANGE_LAWS + '{past, same, changed}'], 'default': 'omega arith',
+    'compare/next': {'use': [EQUATIONS, NAT, OMEGA, LENGTH, CHANGES + '{nextChanged}', CHANGE_LAWS + '{past, same, changed}'], 'default': 'omega arith',
         'Inv-loop': '(from ≤ i) × (nextChanged before after i ≡ nextChanged before after from)', 'μ-loop': 'length after - i',
         'loop-holds': '(omega arith, refl)',
         'loop-again': '(omega arith, sym (same _ _ _ (@loop-test .taken) (@if1 .left)) ∙ @loop .inv .1)',

@@ -1,11 +1,8 @@
-# The answers from which the proofs of the program `vectors` are written.
+# The answers from which the proofs of the crate `vectors` are written.
 NAT = 'Prim.Native.Nat.{_-_, _≤_}'
-OMEGA = 'native.Mathlib.Omega.{arith}'
-EQUATIONS = 'mathlib.Core.Path.{_≡_}'
-LENGTH = 'lib.ListN.{length}'
 
 A = {
-    'show': {'use': [NAT, OMEGA, EQUATIONS, LENGTH], 'Inv-loop': 'length before ≡ length after', 'μ-loop': 'length after - at'},
+    'show': {'use': [NAT, OMEGA, 'mathlib.Core.Path.{_≡_}', LENGTH], 'Inv-loop': 'length before ≡ length after', 'μ-loop': 'length after - at'},
     'run_part': {'use': [OMEGA, 'lib.ListN.{length-take}'], **{
         'slice-aggregate-run' + n: 'omega (arith, length-take (@least%s .result) (@args .%s .now), @least%s .ensures .1)' % (k, words, k)
         for n, k, words in (('', '', 'memory'), ('-2', '2', 'pages'), ('-3', '3', 'ports'))}},

@@ -8,8 +8,9 @@
  *   ports    1,024 ports
  *
  * Each pointer is followed by the number of elements that it points to. A pointer is not null, also where that number is 0, and is
- * aligned for its type; the lists do not overlap. Any number may be given, and one that is wrong is refused. A call keeps nothing
- * after it has returned, takes nothing from the heap, and may run beside a call on other lists.
+ * aligned for its type; no two of the lists overlap, and the image of a load overlaps none of them. Any number may be given, and one
+ * that is wrong is refused. A call keeps nothing after it has returned, takes nothing from the heap, and may run beside a call on
+ * other lists.
  *
  * Words of the state (bit 0 is the most significant bit of a word, bit 15 the least significant):
  *

@@ -26,9 +26,9 @@ fn target(kind: u16, memory: u32) -> u32 {
     }
 }
 
-/// An image for a memory of some words.
+/// An image for a memory of some words; where there are none it is refused before it is looked at.
 pub fn image(numbers: &mut Numbers, memory: usize) -> Vec<u8> {
-    let memory = memory as u32;
+    let memory = memory.max(1) as u32;
     let mut entries = entries(numbers, memory);
     let damage = if numbers.once_in(2) { 0 } else { 1 + numbers.below(8) };
     let mut bytes = match damage {

@@ -6,7 +6,7 @@ use crate::packed::{IC, SW};
 use crate::shapes::{shape, Shape};
 use crate::subject::Lent;
 use crate::watch::place;
-use crate::words::{address, akin, edge, float};
+use crate::words::{address, akin, count, edge, float, limits, signs};
 
 /// Puts an instruction where IC stands, with operands that it is likely to reach.
 pub fn plant(numbers: &mut Numbers, lent: &mut Lent) {
@@ -16,7 +16,7 @@ pub fn plant(numbers: &mut Numbers, lent: &mut Lent) {
         match shape {
             Some(Shape::Base) => aim_base(numbers, lent, first, first & 0xFF),
             Some(Shape::BaseIndexed) => aim_base(numbers, lent, first, index(lent, first)),
-            Some(Shape::Block) => count(numbers, lent, first),
+            Some(Shape::Block) => block(numbers, lent, first),
             Some(Shape::Registers) => second_registers(numbers, lent, first),
             Some(Shape::Direct | Shape::Indirect) => {
                 let accumulator = usize::from((first >> 4) & 0xF);
@@ -53,13 +53,26 @@ fn aim_base(numbers: &mut Numbers, lent: &mut Lent, first: u16, distance: u16) {
     operand(numbers, lent, target, accumulator);
 }
 
-/// At times makes RB and the next registers akin to RA and its next ones.
+/// At times makes RB and the next registers akin to RA and its next ones, or gives both floats at
+/// the limits; gives most shifts by a register a count at the limits.
 fn second_registers(numbers: &mut Numbers, lent: &mut Lent, first: u16) {
-    if numbers.once_in(3) {
-        let words = akin(numbers, registers(lent, usize::from((first >> 4) & 0xF)));
-        for (distance, word) in words.into_iter().enumerate() {
-            lent.state[(usize::from(first & 0xF) + distance) % 16] = word;
+    let (a, b) = (usize::from((first >> 4) & 0xF), usize::from(first & 0xF));
+    if (0x6A..=0x6F).contains(&(first >> 8)) && !numbers.once_in(3) {
+        set(lent, a, &signs(numbers));
+        set(lent, b, &[count(numbers)]);
+        return;
+    }
+    match numbers.below(6) {
+        0 | 1 => {
+            let words = akin(numbers, registers(lent, a));
+            set(lent, b, &words);
         }
+        2 | 3 => {
+            let [accumulator, operand] = limits(numbers);
+            set(lent, a, &accumulator);
+            set(lent, b, &operand);
+        }
+        _ => {}
     }
 }
 
@@ -68,8 +81,15 @@ fn registers(lent: &Lent, first: usize) -> [u16; 3] {
     [0, 1, 2].map(|distance| lent.state[(first + distance) % 16])
 }
 
+/// Sets registers from one on.
+fn set(lent: &mut Lent, first: usize, words: &[u16]) {
+    for (distance, word) in words.iter().enumerate() {
+        lent.state[(first + distance) % 16] = *word;
+    }
+}
+
 /// Sets the count of MOV to a small one and the stack of the others to an address.
-fn count(numbers: &mut Numbers, lent: &mut Lent, first: u16) {
+fn block(numbers: &mut Numbers, lent: &mut Lent, first: u16) {
     let (a, b) = (usize::from((first >> 4) & 0xF), usize::from(first & 0xF));
     lent.state[15] = address(numbers);
     lent.state[a] = address(numbers);
@@ -90,11 +110,17 @@ fn pointed(numbers: &mut Numbers, lent: &mut Lent, target: u16, indirect: bool) 
     pointer
 }
 
-/// Puts an operand at an address: a float, any words, or words akin to the accumulator's.
+/// Puts an operand at an address: a float, words akin to the accumulator's, a float at the limits
+/// with another in the accumulator, or any words.
 fn operand(numbers: &mut Numbers, lent: &mut Lent, target: u16, accumulator: usize) {
-    let words = match numbers.below(3) {
-        0 => float(numbers),
-        1 => akin(numbers, registers(lent, accumulator)),
+    let words = match numbers.below(8) {
+        0 | 1 => float(numbers),
+        2 | 3 => akin(numbers, registers(lent, accumulator)),
+        4 | 5 => {
+            let [first, second] = limits(numbers);
+            set(lent, accumulator, &first);
+            second
+        }
         _ => [edge(numbers), edge(numbers), edge(numbers)],
     };
     for (distance, word) in (0..).zip(words) {

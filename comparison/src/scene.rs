@@ -100,18 +100,19 @@ fn vectors(numbers: &mut Numbers, lent: &mut Lent) {
     }
 }
 
-/// Gives every word of the state a new value.
+/// Gives every word of the state a new value; floats take three registers each.
 pub fn stir(numbers: &mut Numbers, lent: &mut Lent) {
     let state = &mut lent.state;
-    for number in 0..16 {
-        match numbers.below(8) {
-            0..=2 => state[number] = edge(numbers),
-            3 | 4 => state[number] = address(numbers),
-            _ => {
-                for (distance, word) in float(numbers).into_iter().enumerate() {
-                    state[(number + distance) % 16] = word;
-                }
-            }
+    let mut number = 0;
+    while number < 16 {
+        let words: &[u16] = match numbers.below(8) {
+            0..=3 => &[edge(numbers)],
+            4 | 5 => &[address(numbers)],
+            _ => &float(numbers),
+        };
+        for word in words {
+            state[number % 16] = *word;
+            number += 1;
         }
     }
     state[IC] = address(numbers) | if numbers.once_in(8) { 0x0FFF } else { 0 };

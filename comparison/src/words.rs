@@ -118,6 +118,44 @@ fn akin_float(numbers: &mut Numbers, [first, second, third]: [u16; 3]) -> [u16; 
     [(upper >> 8) as u16, ((upper << 8) as u16) | (exponent & 0xFF), last]
 }
 
+/// Mantissas at their limits: -1.0 most often, 0.5, the largest, the first below -0.5, and the
+/// smallest of both signs, which are not normalised.
+const MANTISSAS: [[u16; 3]; 8] = [
+    [0x8000, 0x0000, 0x0000],
+    [0x8000, 0x0000, 0x0000],
+    [0x8000, 0x0000, 0x0000],
+    [0x4000, 0x0000, 0x0000],
+    [0x7FFF, 0xFF00, 0xFFFF],
+    [0xBFFF, 0xFF00, 0xFFFF],
+    [0x0000, 0x0100, 0x0001],
+    [0xFFFF, 0xFF00, 0xFFFF],
+];
+
+/// Two floats with mantissas at their limits, the sum or the difference of their exponents at an
+/// end of the range or next to it: 126 to 129, which modulo 256 is -130 to -127.
+pub fn limits(numbers: &mut Numbers) -> [[u16; 3]; 2] {
+    let exponent = exponent(numbers);
+    let end = numbers.pick(&[126, 127, 127, 128, 129]);
+    let (sum, difference) = (end - exponent as i16, exponent as i16 - end);
+    let other = numbers.pick(&[sum, difference]) as u16 & 0xFF;
+    [exponent, other].map(|exponent| {
+        let [first, second, third] = numbers.pick(&MANTISSAS);
+        [first, second | exponent, third]
+    })
+}
+
+/// Two words whose sign changes at the first, the second or the last position of a shift, or never.
+pub fn signs(numbers: &mut Numbers) -> [u16; 2] {
+    let any = [numbers.word(), numbers.word()];
+    numbers.pick(&[[0xFFFF; 2], [0xFFFF; 2], [0, 0], [0, 1], [0x8000, 0], [0xC000, 0], any, any])
+}
+
+/// The count of a shift: at a limit of 16 or 32 positions, one less or one more, to either side.
+pub fn count(numbers: &mut Numbers) -> u16 {
+    let count = numbers.pick(&[0, 1, 4, 15, 16, 17, 31, 32, 33]);
+    numbers.pick(&[count, count.wrapping_neg()])
+}
+
 /// A status word: any CS, key 0 half of the time, the lower address states.
 pub fn status(numbers: &mut Numbers) -> u16 {
     let condition = numbers.pick(&[0x1000, 0x2000, 0x4000, 0x9000, 0xA000, 0xC000, 0, 0x8000]);

@@ -1,23 +1,24 @@
-//! The comparison can fail: machines with one mistake each are reported within the quick batch.
+//! The comparison of the second simulator with the twin can fail: with one mistake in the simulator
+//! a difference is reported within the quick batch.
 
-use comparison::{compare, Batch, Lent, Next, Simulated, Stepped, Subject, Watcher};
+use comparison::{compare, Batch, Lent, Next, Simulated, Stepped, Subject, Twin, Watcher};
 use comparison::{CASES, SEED};
 use simulator::State;
 
-/// The number of the first case that reports a machine, looked for in so many cases.
-fn reported(subject: &mut dyn Subject, cases: u64) -> Option<u64> {
-    let mut reference = Simulated;
-    let mut batch = Batch::new(SEED, &mut reference, subject);
+/// The number of the first case in which a simulator differs from the twin, in so many cases.
+fn reported(simulator: &mut dyn Subject, cases: u64) -> Option<u64> {
+    let mut twin = Twin;
+    let mut batch = Batch::new(SEED, simulator, &mut twin);
     let difference = compare(&mut batch, 0, |number| number < cases).err()?;
     let text = difference.to_string();
     assert!(text.contains(&format!("seed {SEED} case {}", difference.case)), "{text}");
     Some(difference.case)
 }
 
-/// Checks that a machine is reported within the quick batch, and in which case.
+/// Checks that a simulator with a mistake is reported within the quick batch, and in which case.
 #[track_caller]
-fn caught(what: &str, subject: &mut dyn Subject) {
-    let case = reported(subject, CASES);
+fn caught(what: &str, simulator: &mut dyn Subject) {
+    let case = reported(simulator, CASES);
     assert!(case.is_some(), "not found: {what}");
     println!("{what}: case {}", case.unwrap_or_default());
 }
@@ -34,25 +35,60 @@ impl Watcher for Wrong {
 /// A simulator that makes a mistake.
 struct Wrong(Mistake);
 
-/// The opcode of a step that runs an instruction.
-fn opcode(next: Next) -> Option<u16> {
-    match next {
-        Next::Instruction { first, .. } => Some(first >> 8),
-        _ => None,
-    }
-}
-
 #[test]
 fn nothing_is_reported_without_a_mistake() {
     let mut right = Stepped { watcher: Wrong(|_, _, _, _| {}) };
     assert_eq!(reported(&mut right, 300), None);
 }
 
+/// The first word of a step that runs an instruction with this opcode.
+fn first_word(next: Next, opcode: u16) -> Option<u16> {
+    match next {
+        Next::Instruction { first, .. } if first >> 8 == opcode => Some(first),
+        _ => None,
+    }
+}
+
+/// Registers of a state from the one of a field on.
+fn registers<const N: usize>(state: &State, field: u16) -> [u16; N] {
+    std::array::from_fn(|distance| state.r[(usize::from(field & 0xF) + distance) % 16])
+}
+
+/// Whether two registers hold -1.0 of 32 bits each, the sum of the exponents 7F; for 48 bits the
+/// third words are 0.
+fn top_of_the_range([a, b]: [[u16; 3]; 2], extended: bool) -> bool {
+    let one = |words: [u16; 3]| words[0] == 0x8000 && words[1] >> 8 == 0;
+    let thirds = !extended || (a[2], b[2]) == (0, 0);
+    one(a) && one(b) && thirds && i16::from(a[1] as i8) + i16::from(b[1] as i8) == 0x7F
+}
+
+/// Takes back the overflow of -1.0 times -1.0 at the top of the range, of FMR or EFMR.
+fn without_overflow(next: Next, before: &State, after: &mut State, opcode: u16) {
+    let Some(first) = first_word(next, opcode) else { return };
+    let factors = [registers(before, first >> 4), registers(before, first)];
+    if top_of_the_range(factors, opcode == 0xCB) && before.pi & 0x1000 == 0 {
+        after.pi &= !0x1000;
+    }
+}
+
 /// Mistakes in one step, most of them rare.
-const MISTAKES: [(&str, Mistake); 8] = [
+const MISTAKES: [(&str, Mistake); 11] = [
+    ("FMR of -1.0 by -1.0, the sum of the exponents 7F", |next, before, after, _| {
+        without_overflow(next, before, after, 0xC9);
+    }),
+    ("EFMR of -1.0 by -1.0, the sum of the exponents 7F", |next, before, after, _| {
+        without_overflow(next, before, after, 0xCB);
+    }),
+    ("DSAR of all ones by 32", |next, before, after, _| {
+        let Some(first) = first_word(next, 0x6E) else { return };
+        let count = registers::<1>(before, first) == [32];
+        if count && registers(before, first >> 4) == [0xFFFF; 2] && before.pi & 0x0800 == 0 {
+            after.pi &= !0x0800;
+        }
+    }),
     ("a bit of EFMR's result", |next, before, after, _| {
-        if opcode(next) == Some(0xCB) && after.r != before.r {
-            let Next::Instruction { first, .. } = next else { return };
+        let Some(first) = first_word(next, 0xCB) else { return };
+        if after.r != before.r {
             after.r[(usize::from((first >> 4) & 0xF) + 2) % 16] ^= 1;
         }
     }),
@@ -62,7 +98,7 @@ const MISTAKES: [(&str, Mistake); 8] = [
         }
     }),
     ("BEX leaves a pending bit 5", |next, before, after, _| {
-        if opcode(next) == Some(0x77) {
+        if first_word(next, 0x77).is_some() {
             after.pi |= before.pi & 0x0400;
         }
     }),
@@ -72,14 +108,13 @@ const MISTAKES: [(&str, Mistake); 8] = [
         }
     }),
     ("DISN by 16 without remainder", |next, _, after, _| {
-        if let Next::Instruction { first, .. } = next {
-            if first & 0xFF0F == 0xD30F {
-                after.r[(usize::from((first >> 4) & 0xF) + 1) % 16] = 0;
-            }
+        let Some(first) = first_word(next, 0xD3) else { return };
+        if first & 0xF == 0xF {
+            after.r[(usize::from((first >> 4) & 0xF) + 1) % 16] = 0;
         }
     }),
     ("PSHM of all registers changes one more word", |next, before, after, memory| {
-        if opcode(next) == Some(0x9F) && after.r[15] == before.r[15].wrapping_sub(16) {
+        if first_word(next, 0x9F).is_some() && after.r[15] == before.r[15].wrapping_sub(16) {
             memory[4095] ^= 1;
         }
     }),
@@ -89,7 +124,7 @@ const MISTAKES: [(&str, Mistake); 8] = [
         }
     }),
     ("FT bit 8 for a word beyond the memory is lost in POPM", |next, before, after, _| {
-        if opcode(next) == Some(0x8F) && before.ft & 0x0080 == 0 {
+        if first_word(next, 0x8F).is_some() && before.ft & 0x0080 == 0 {
             after.ft &= !0x0080;
         }
     }),

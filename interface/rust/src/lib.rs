@@ -4,7 +4,7 @@
 //! refused with the number of the first question that was answered by "no"; a refusal changes nothing.
 //!
 //! ```
-//! let mut state = twin1750::State::default();
+//! let mut state = twin1750::State::reset();
 //! let (mut memory, mut pages, mut ports) = (vec![0; 16384], vec![0; 512], vec![0; 1024]);
 //! // one entry: the words 823F (R3 becomes 16) and 7900 (a branch to itself) from word 0 of memory on
 //! let image = [0, 1, 0, 1, 0, 0, 0, 0, 0, 0, 0, 2, 0x82, 0x3F, 0x79, 0x00];

@@ -10,6 +10,9 @@ const A_RUNS: u16 = 4;
 const B_RUNS: u16 = 8;
 
 /// The processor's state, without memory, page registers and ports.
+///
+/// The default has every word 0 and every mark off, so that both timers are stopped; a reset leaves them running, and
+/// [`State::reset`] is the state that it leaves.
 #[derive(Clone, Copy, Debug, Default, PartialEq, Eq)]
 pub struct State {
     /// R0 to R15.
@@ -41,6 +44,11 @@ pub struct State {
 }
 
 impl State {
+    /// The state after a reset: all words 0, interrupts disabled, no hold, timers 0 and running. Loading an image starts from it.
+    pub fn reset() -> State {
+        State { a_runs: true, b_runs: true, ..State::default() }
+    }
+
     /// The state as the 32 words of the C interface.
     pub fn pack(&self) -> [u16; STATE_WORDS] {
         let marks = [

@@ -10,7 +10,7 @@ fn example() {
     let path = concat!(env!("CARGO_MANIFEST_DIR"), "/../../examples/loop.image");
     let bytes = std::fs::read(path).expect("the example image");
     let (mut memory, mut pages, mut ports) = (vec![0; 16384], vec![0; 512], vec![0; 1024]);
-    let mut state = State::default();
+    let mut state = State::reset();
     load(&bytes, &mut state, &mut memory, &mut pages, &mut ports).expect("loaded");
     assert_eq!(memory[..3], [0x823F, 0x7900, 0]);
     run(1000, &mut state, &mut memory, &mut pages, &mut ports).expect("run");
@@ -94,6 +94,21 @@ fn loaded_words() {
     assert_eq!(machine.load(&image(&[(3, 0, 16), (4, 0, 5)], &bodies)), Ok(()));
     assert_eq!(machine.words[..21], bodies);
     assert_eq!(machine.words[21..], [12, 0, 0, 0, 0, 0, 0, 0, 0, 0, 0]);
+}
+
+/// An image without entries leaves the reset state; it differs from the default in the timers, which run.
+#[test]
+fn reset_state() {
+    let mut machine = Machine::new();
+    let mut state = various();
+    let Machine { memory, pages, ports, .. } = &mut machine;
+    load(&image(&[], &[]), &mut state, memory, pages, ports).expect("loaded");
+    assert_eq!(state, State::reset());
+    assert_eq!(State { a_runs: false, b_runs: false, ..state }, State::default());
+    assert!(machine.memory.iter().chain(&machine.ports).all(|word| *word == 0));
+    assert!(machine.pages.iter().enumerate().all(|(index, word)| usize::from(*word) == index % 16));
+    assert_eq!(machine.load(&image(&[], &[])), Ok(()));
+    assert_eq!(machine.state(), State::reset().pack());
 }
 
 /// Marks, timers and counter after each of the commands TAH, TBH, ENBL, DSBL, OTA and OTB from R0.

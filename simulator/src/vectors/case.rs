@@ -5,6 +5,11 @@ pub(crate) const CODE: u16 = 0x0100;
 /// The number of IC among the words of the state.
 const IC: u16 = 16;
 
+/// Words in print, a blank between them.
+pub(crate) fn hex(words: &[u16]) -> String {
+    words.iter().map(|word| format!("{word:04X}")).collect::<Vec<_>>().join(" ")
+}
+
 /// A case: its title, its entries (kind letter, number, word) and the steps of its run.
 #[derive(Clone)]
 pub(crate) struct Case {

@@ -50,47 +50,69 @@ fn refused(number: u16, cases: &mut Vec<Case>) {
     }
 }
 
-/// Pointers at the edge of a page, whose neighbour refuses, and at the end of the addresses.
-fn at_edges(number: u16, cases: &mut Vec<Case>) {
-    let place = |linkage: u16, service: u16, title: &str| {
-        let case = pending(number, title).mk(0xFFFF).marks(0x000D);
-        case.memory(32 + 2 * number, &[linkage, service])
-    };
+/// Linkage and service areas across the edge of a page, whose neighbour refuses or has the lock of
+/// another key, and across the end of the addresses. `start` makes the case of a title, which
+/// finds its pointers at an address.
+fn at_edges(pointers: u16, start: impl Fn(&str) -> Case, cases: &mut Vec<Case>) {
     for back in [1, 2] {
-        let case = place(0x2000 - back, SERVICE, "linkage across an edge, the rest protected");
+        let named = |title: &str| {
+            let case = start(&format!("{title}, {back} before it"));
+            case.key(6).sw(0x2065).group_fetch(5)
+        };
+        let linkage = |at: u16, title: &str| named(title).memory(pointers, &[at]);
+        let service = |at: u16, title: &str| named(title).memory(pointers + 1, &[at]);
+        let (edge, end) = (0x2000 - back, 0_u16.wrapping_sub(back));
+        let case = linkage(edge, "linkage across an edge, the rest protected");
         cases.push(case.group_page(3, 2, 0x0802));
-        let case = place(0x2000 - back, SERVICE, "linkage across an edge, the first outside");
+        let case = linkage(edge, "linkage across an edge, the first outside");
         cases.push(case.group_page(3, 1, 0x0009));
-        let case = place(LINKAGE, 0x2000 - back, "service across an edge, the rest outside");
-        cases.push(case.page(2, 0x0010).memory(0x2000 - back, &NEW[..usize::from(back)]));
-        let case = place(0x0000_u16.wrapping_sub(back), SERVICE, "linkage from FFFF to 0000");
+        let case = linkage(edge, "linkage across an edge, locks of other keys");
+        cases.push(case.group_page(3, 1, 0x7001).group_page(3, 2, 0x8002));
+        let case = service(edge, "service across an edge, locks of other keys");
+        cases.push(case.page(1, 0x7001).page(2, 0x8002).memory(edge, &NEW));
+        let case = service(edge, "service across an edge, the rest outside");
+        cases.push(case.page(2, 0x0010).memory(edge, &NEW[..usize::from(back)]));
+        let case = linkage(end, "linkage from FFFF to 0000");
         cases.push(case.group_page(3, 15, 0x0002));
-        let case = place(LINKAGE, 0x0000_u16.wrapping_sub(back), "service from FFFF to 0000");
-        let (end, start) = NEW.split_at(usize::from(back));
-        cases.push(case.page(15, 0x0003).memory(0x4000 - back, end).memory(0, start));
+        let (near, far) = NEW.split_at(usize::from(back));
+        let case = service(end, "service from FFFF to 0000").page(15, 0x0003);
+        cases.push(case.memory(0x4000 - back, near).memory(0, far));
     }
+}
+
+/// BEX with its pointers, a service block with an IC for each entry number, and interrupts enabled.
+fn call(entry: u16, title: &str) -> Case {
+    let case = Case::on(format!("BEX {entry} {title}"), &[0x7700 | entry]).sw(0x1000);
+    let case = case.memory(42, &[LINKAGE, SERVICE]).memory(SERVICE, &NEW[..2]).mk(0x0F0F);
+    let entries: Vec<u16> = (0..16).map(|number| 0x0360 + number).collect();
+    case.memory(SERVICE + 2, &entries).marks(0x000D)
 }
 
 /// BEX with each entry number, with refusals, and from user keys.
 fn executive(cases: &mut Vec<Case>) {
-    let call = |entry: u16, title: &str| {
-        let case = Case::on(format!("BEX {entry} {title}"), &[0x7700 | entry]).sw(0x1000);
-        let case = case.memory(42, &[LINKAGE, SERVICE]).memory(SERVICE, &NEW[..2]).mk(0x0F0F);
-        let entries: Vec<u16> = (0..16).map(|number| 0x0360 + number).collect();
-        case.memory(SERVICE + 2, &entries).marks(0x000D)
-    };
     for entry in 0..16 {
         cases.push(call(entry, "key 0"));
-        cases
-            .push(call(entry, "key 6, interrupt 5 pending before").key(6).pi(0x0400).marks(0x000E));
+        let case = call(entry, "key 6, interrupt 5 pending before").key(6);
+        cases.push(case.pi(0x0400).marks(0x000E));
     }
     for (title, change) in REFUSALS {
         cases.push(change(call(7, title)));
         cases.push(change(call(15, title).key(5).sw(0x2055).also("key 5").group_fetch(5)));
     }
+    cases.push(call(3, "first fetch refused").fetch_page(0, 0x0800));
+}
+
+/// BEX with its pointers at edges; with its entry word beyond the edge or the end of the addresses.
+fn executive_at_edges(cases: &mut Vec<Case>) {
+    at_edges(42, |title| call(0, title), cases);
     let case = call(9, "entry word behind an edge that refuses").memory(43, &[0x1FF6]);
     cases.push(case.memory(0x1FF6, &NEW[..2]).page(2, 0x0010));
-    cases.push(call(3, "first fetch refused").fetch_page(0, 0x0800));
+    for back in [1, 2, 5, 6] {
+        let title = format!("service {back} before the end, entry word beyond it");
+        let case = call(4, &title).page(15, 0x0003).memory(43, &[0_u16.wrapping_sub(back)]);
+        let case = case.memory(0x3FFA, &[1, 2, 3, 4, 5, 6]);
+        cases.push(case.memory(0, &[0x0361, 0x0362, 0x0363, 0x0364, 0x0365, 0x0366]));
+    }
 }
 
 /// Two or three entries one after another, and timers that ask for one.
@@ -117,9 +139,11 @@ pub(crate) fn cases(cases: &mut Vec<Case>) {
         taken(number, cases);
         refused(number, cases);
     }
-    for number in [0, 5, 9, 15] {
-        at_edges(number, cases);
+    for number in [0, 1, 5, 9, 15] {
+        let start = |title: &str| pending(number, title).mk(0xFFFF).marks(0x000D);
+        at_edges(32 + 2 * number, start, cases);
     }
     executive(cases);
+    executive_at_edges(cases);
     sequences(cases);
 }

@@ -1,6 +1,6 @@
 //! Known instructions, the standard's tables I to IV and VII, and its worked examples.
 
-use super::case::Case;
+use super::case::{hex, Case};
 
 /// Table I.
 const SINGLE: [u16; 12] = [
@@ -109,7 +109,7 @@ fn examples(cases: &mut Vec<Case>) {
         for (count, words) in [(4, [0x9ABC, 0xDEF1]), (4, [0x1ABC, 0xDEF1]), (16, [0x8001, 0x7FFE])]
         {
             let word = (opcode << 8) | ((count - 1) << 4) | 5;
-            let title = format!("example of a shift {opcode:02X} by {count}");
+            let title = format!("example of a shift {opcode:02X} of {} by {count}", hex(&words));
             cases.push(Case::on(title, &[word]).registers(5, &words));
         }
     }

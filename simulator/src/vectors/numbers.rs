@@ -1,6 +1,6 @@
 //! Arithmetic on pairs of notable numbers: borders, signs, zeros, operands that are not normalised.
 
-use super::case::Case;
+use super::case::{hex, Case};
 
 /// Instructions on the accumulator in R4 and up and the operand in R8 and up.
 const SINGLE: &[(u16, &str)] = &[
@@ -62,6 +62,38 @@ const FLOATS: &[([u16; 3], [u16; 3])] = &[
     ([0xFFFF, 0xFF00, 0xFFFF], [0x0000, 0x0100, 0x0001]),
     ([0x1000, 0x007F, 0x8000], [0xF000, 0x0001, 0x0001]),
     ([0x4000, 0x007F, 0], [0x0000, 0x0100, 0]),
+    ([0x4000, 0x0070, 0], [0x0000, 0x0100, 0]),
+    // equal or nearly equal values with other exponents
+    ([0x2000, 0x0002, 0], [0x4000, 0x0001, 0]),
+    ([0x0001, 0x0004, 0], [0x4000, 0x0001, 0]),
+    ([0xC000, 0x0003, 0], [0x8000, 0x0001, 0]),
+    ([0x0000, 0x0128, 1], [0x4000, 0x0000, 0]),
+    ([0x0000, 0x0028, 1], [0x4000, 0x0000, 0]),
+    ([0xFFFF, 0xFF18, 0xFFFF], [0x8000, 0x0000, 0]),
+    // -1.0 times -1.0, the sum of the exponents 127, 126, -128 and -129
+    ([0x8000, 0x0040, 0], [0x8000, 0x003F, 0]),
+    ([0x8000, 0x0040, 0], [0x8000, 0x003E, 0]),
+    ([0x8000, 0x0080, 0], [0x8000, 0x0000, 0]),
+    ([0x8000, 0x0080, 0], [0x8000, 0x00FF, 0]),
+    // quotients within the range, but the difference of the exponents 128 or -129
+    ([0x0001, 0x007F, 0], [0x4000, 0x00FF, 0]),
+    ([0x0001, 0x007F, 0], [0xBFFF, 0xFFFF, 0]),
+    ([0x6000, 0x0080, 0], [0x4000, 0x0001, 0]),
+    ([0xA000, 0x0080, 0], [0x4000, 0x0001, 0]),
+    // sums of which little is left, at exponents that normalising leaves within the range or not
+    ([0x6000, 0x0184, 1], [0xA000, 0x0084, 0]),
+    ([0x6000, 0x0196, 1], [0xA000, 0x0096, 0]),
+    ([0x6000, 0x0195, 1], [0xA000, 0x0095, 0]),
+    ([0x4000, 0x0184, 1], [0x4000, 0x0084, 0]),
+    // exponents out of range with a zero, with each sign
+    ([0x0000, 0x007F, 0], [0x8000, 0x007F, 0]),
+    ([0x0000, 0x0080, 0], [0x4000, 0x0080, 0]),
+    ([0x0000, 0x007F, 0], [0x4000, 0x0080, 0]),
+    ([0x0000, 0x007F, 0], [0x8000, 0x0080, 0]),
+    ([0x0000, 0x007F, 0], [0xA000, 0x00FF, 0]),
+    ([0x4000, 0x007F, 0], [0x8000, 0x0080, 0]),
+    ([0x0000, 0x0000, 0], [0x0000, 0x0000, 0]),
+    ([0x8000, 0x0080, 0], [0x0000, 0x007F, 0]),
 ];
 
 /// Floats and integers for the conversions and sign changes.
@@ -90,16 +122,68 @@ const OPERANDS: &[[u16; 3]] = &[
     [0x7FFF, 0xFF1F, 0xFFFF],
     [0x8000, 0x001F, 0x0001],
     [0x0000, 0x0180, 0x0001],
+    [0x8000, 0x007F, 0],
     [0x8000, 0x0080, 0],
+    [0x4000, 0x0080, 0],
     [0x0000, 0x0000, 0],
 ];
 
 /// Each pair under each instruction.
 fn pairs(uses: &[(u16, &str)], rows: &[(&[u16], &[u16])], cases: &mut Vec<Case>) {
     for (word, name) in uses {
-        for (number, (accumulator, operand)) in (1..).zip(rows) {
-            let case = Case::on(format!("{name} on pair {number}"), &[*word]);
+        for (accumulator, operand) in rows {
+            let title = format!("{name} on {} and {}", hex(accumulator), hex(operand));
+            let case = Case::on(title, &[*word]);
             cases.push(case.registers(4, accumulator).registers(8, operand));
+        }
+    }
+}
+
+/// The instructions on the accumulator in R4 with an operand of 1 to 16 in their second field.
+const SHORT: &[(u16, &str)] = &[
+    (0x82, "LISP"),
+    (0x83, "LISN"),
+    (0xA2, "AISP"),
+    (0xB2, "SISP"),
+    (0xC2, "MISP"),
+    (0xC3, "MISN"),
+    (0xD2, "DISP"),
+    (0xD3, "DISN"),
+    (0xF2, "CISP"),
+    (0xF3, "CISN"),
+];
+
+/// The smallest and the largest operand in a field, on accumulators between them and beyond.
+fn shorts(cases: &mut Vec<Case>) {
+    for (opcode, name) in SHORT {
+        for operand in [1, 16] {
+            for accumulator in [0x0008, 0xFFF8, 0x7FFF, 0x8000] {
+                let title = format!("{name} by {operand} on {accumulator:04X}");
+                let case = Case::on(title, &[(opcode << 8) | 0x40 | (operand - 1)]);
+                cases.push(case.registers(4, &[accumulator, 0x1234]));
+            }
+        }
+    }
+}
+
+/// Each operand under each instruction that has one.
+fn ones(cases: &mut Vec<Case>) {
+    for (word, name) in ONE_OPERAND {
+        for operand in OPERANDS {
+            let case = Case::on(format!("{name} of {}", hex(operand)), &[*word]);
+            cases.push(case.registers(4, &[0x1111, 0x2222, 0x3333]).registers(8, operand));
+        }
+    }
+}
+
+/// FIX and EFIX of too large a number: CS is set from the registers, which stay as they are.
+fn too_large(cases: &mut Vec<Case>) {
+    for pair in [[0x0000, 0x8000], [0x0000, 0x0001], [0x0001, 0], [0x8000, 0], [0xFFFF, 0], [0, 0]]
+    {
+        for (word, name) in [(0xE848, "FIX"), (0xEA48, "EFIX")] {
+            let title = format!("{name} of too large a number on {}", hex(&pair));
+            let case = Case::on(title, &[word]).sw(0x8000).registers(4, &pair);
+            cases.push(case.registers(8, &[0x4000, 0x0020, 0]));
         }
     }
 }
@@ -113,6 +197,7 @@ pub(crate) fn cases(cases: &mut Vec<Case>) {
     pairs(DOUBLE, &integers, cases);
     pairs(FLOAT, &singles, cases);
     pairs(EXTENDED, &floats, cases);
-    let ones: Vec<_> = OPERANDS.iter().map(|o| (&[0x1111, 0x2222, 0x3333][..], &o[..])).collect();
-    pairs(ONE_OPERAND, &ones, cases);
+    shorts(cases);
+    ones(cases);
+    too_large(cases);
 }

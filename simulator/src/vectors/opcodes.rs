@@ -13,8 +13,10 @@ const OUTSIDE: u16 = 0xF004;
 /// The normal cases of an instruction: two sets of numbers with key 0, one with a matching key;
 /// where only the address is formed in another way than in an earlier row, one set.
 fn normal(row: &Row, cases: &mut Vec<Case>) {
-    let count = if row.indexed() { 1 } else { 2 };
-    cases.extend(VALUES.iter().take(count).map(|values| row.case(values)));
+    cases.push(row.case(&VALUES[0]).also("positive numbers"));
+    if !row.indexed() {
+        cases.push(row.case(&VALUES[1]).also("numbers of both signs"));
+    }
     if row.words > 0 {
         let case = row.case(&VALUES[0]).key(5).page(1, 0x5001).page(2, LOCKED);
         cases.push(case.also("key 5 on lock 5"));
@@ -35,7 +37,7 @@ fn fetches(row: &Row, cases: &mut Vec<Case>) {
 fn operands(row: &Row, cases: &mut Vec<Case>) {
     let refused = [(2, LOCKED), (2, PROTECTED), (2, OUTSIDE), (1, 0x5001), (1, OUTSIDE)];
     let names = ["locked", "write protected", "outside", "pointer locked", "pointer outside"];
-    let count = match (row.words, row.indirect) {
+    let count = match (row.words, row.pointer.is_some()) {
         (0, false) => 0,
         (_, false) if row.indexed() => 1,
         (_, false) => 3,
@@ -44,6 +46,16 @@ fn operands(row: &Row, cases: &mut Vec<Case>) {
     for ((page, register), name) in refused.into_iter().zip(names).take(count) {
         let case = row.case(&VALUES[1]).key(3).page(1, 0xF001).page(page, register);
         cases.push(case.also(name).also("key 3"));
+    }
+}
+
+/// The accesses of LST and LSTI, which need key 0: no lock refuses it, only the end of the memory.
+fn privileged(cases: &mut Vec<Case>) {
+    for row in rows(OPERAND).iter().filter(|row| row.name.starts_with("LST")) {
+        cases.push(row.case(&VALUES[0]).page(2, OUTSIDE).also("outside, key 0"));
+        if row.pointer.is_some() {
+            cases.push(row.case(&VALUES[0]).page(1, OUTSIDE).also("pointer outside, key 0"));
+        }
     }
 }
 
@@ -69,9 +81,10 @@ pub(crate) fn cases(cases: &mut Vec<Case>) {
         fetches(&row, cases);
         operands(&row, cases);
     }
-    for row in other_bases(OPERAND).iter().filter(|row| !row.name.ends_with("RX 0")) {
+    for row in &other_bases(OPERAND) {
         cases.push(row.case(&VALUES[1]));
         cases.push(row.case(&VALUES[1]).key(3).page(2, LOCKED).also("locked, key 3"));
     }
+    privileged(cases);
     illegal(cases);
 }

@@ -1,12 +1,12 @@
 //! Every instruction in every addressing mode (4.3, section 5), assembled for an operand at a given
 //! address.
 
-use super::case::Case;
+use super::case::{Case, CODE};
 
 /// Accumulator words, then operand words: as integers and as normalised floats of both widths.
 pub(crate) type Values = ([u16; 3], [u16; 5]);
 
-/// Positive numbers, and numbers of mixed signs.
+/// Positive numbers, and numbers of both signs.
 pub(crate) const VALUES: [Values; 2] = [
     ([0x5000, 0x0304, 0x8001], [0x6000, 0x0102, 0x4321, 0x1357, 0x0246]),
     ([0x9000, 0x00FF, 0x1234], [0x7FFF, 0xFF05, 0x8001, 0x0000, 0xFFFF]),
@@ -17,10 +17,15 @@ const RA: u16 = 4;
 const RB: u16 = 8;
 /// The index register, its contents, and the displacement of the base modes.
 const RX: u16 = 9;
-const INDEX: u16 = 0x0031;
+pub(crate) const INDEX: u16 = 0x0031;
 const DISPLACEMENT: u16 = 0x0012;
+/// The registers of the instructions on blocks of them, each with another number.
+const REGISTERS: [u16; 16] = [
+    0x0A00, 0x0A01, 0x0A02, 0x0A03, 0x0A04, 0x0A05, 0x0A06, 0x0A07, 0x0A08, 0x0A09, 0x0A0A, 0x0A0B,
+    0x0A0C, 0x0A0D, 0x0A0E, 0x0A0F,
+];
 /// Where the word of the indirect modes stands.
-pub(crate) const POINTER: u16 = 0x1100;
+const POINTER: u16 = 0x1100;
 
 /// Opcodes of the direct modes D and DX: name, and how many words of operand they have.
 const DIRECT: &[(u16, &str, u16)] = &[
@@ -232,13 +237,13 @@ pub(crate) struct Row {
     /// The operand's first address and how many words it has; 0 where memory is not touched.
     pub(crate) address: u16,
     pub(crate) words: u16,
-    /// Whether a word at POINTER names the operand.
-    pub(crate) indirect: bool,
+    /// Where the word stands that names the operand, in the indirect modes.
+    pub(crate) pointer: Option<u16>,
 }
 
 impl Row {
     fn new(name: impl Into<String>, code: Vec<u16>, address: u16, words: u16) -> Row {
-        Row { name: name.into(), code, registers: Vec::new(), address, words, indirect: false }
+        Row { name: name.into(), code, registers: Vec::new(), address, words, pointer: None }
     }
 
     fn with(mut self, number: u16, contents: u16) -> Row {
@@ -255,29 +260,38 @@ impl Row {
     pub(crate) fn bare(&self, at: u16, values: &Values) -> Case {
         let (accumulator, operand) = values;
         let mut case = Case::new(self.name.as_str()).code(at, &self.code);
-        let opcode = self.code[0] >> 8;
-        if opcode <= 0x43 || [0x89, 0x99, 0x8F, 0x9F].contains(&opcode) {
-            case = case.registers(0, accumulator);
-        }
-        if opcode > 0x43 {
-            case = case.registers(RA, accumulator);
-        }
+        case = match self.code[0] >> 8 {
+            0x00..=0x43 => case.registers(0, accumulator),
+            // LM, POPM, STM and PSHM: blocks of registers
+            0x89 | 0x8F | 0x99 | 0x9F => case.registers(0, &REGISTERS),
+            _ => case.registers(RA, accumulator),
+        };
         if self.words == 0 {
             case = case.registers(RB, &operand[..3]);
         }
         for (number, contents) in &self.registers {
             case = case.registers(*number, &[*contents]);
         }
-        if self.indirect {
-            case = case.memory(POINTER, &[self.address]);
+        if let Some(pointer) = self.pointer {
+            case = case.memory(pointer, &[self.address]);
         }
         case
     }
 
     /// The same at 0100, with the operand's words where pages are not mapped elsewhere.
     pub(crate) fn case(&self, values: &Values) -> Case {
-        let words = &values.1[..usize::from(self.words)];
-        self.bare(super::case::CODE, values).memory(self.address, words)
+        self.bare(CODE, values).memory(self.address, &self.operand(values))
+    }
+
+    /// The operand's words: the given ones, and for a longer block of registers some more.
+    pub(crate) fn operand(&self, values: &Values) -> Vec<u16> {
+        let more = (1..).map(|number| 0x1111 * number);
+        values.1.into_iter().chain(more).take(usize::from(self.words)).collect()
+    }
+
+    /// Whether the address, or the indirect word's, is a sum with a register.
+    fn summed(&self) -> bool {
+        self.code[0] < 0x4000 || self.code[0] & 0xF != 0
     }
 }
 
@@ -292,14 +306,14 @@ fn direct(address: u16) -> impl Iterator<Item = Row> {
     })
 }
 
-/// The indirect modes: RX = 0 and RX = 9.
-fn indirect(address: u16) -> impl Iterator<Item = Row> {
+/// The indirect modes through a word at an address: RX = 0 and RX = 9.
+fn indirect(address: u16, pointer: u16) -> impl Iterator<Item = Row> {
     INDIRECT.iter().flat_map(move |&(opcode, name, words)| {
         let first = (opcode << 8) | (RA << 4);
-        let plain = Row::new(format!("{name} I"), vec![first, POINTER], address, words);
-        let second = POINTER.wrapping_sub(INDEX);
+        let plain = Row::new(format!("{name} I"), vec![first, pointer], address, words);
+        let second = pointer.wrapping_sub(INDEX);
         let indexed = Row::new(format!("{name} IX"), vec![first | RX, second], address, words);
-        [plain, indexed.with(RX, INDEX)].map(|row| Row { indirect: true, ..row })
+        [plain, indexed.with(RX, INDEX)].map(|row| Row { pointer: Some(pointer), ..row })
     })
 }
 
@@ -339,6 +353,28 @@ fn stacked(address: u16) -> Vec<Row> {
     ]
 }
 
+/// Blocks of two and of sixteen registers; POPM skips the word of R15, here the last or the first.
+pub(crate) fn blocks(address: u16) -> Vec<Row> {
+    let above = |words: u16| address.wrapping_add(words);
+    vec![
+        Row::new("LM of 2 words", vec![0x8910, address], address, 2),
+        Row::new("LM of 16 words", vec![0x89F0, address], address, 16),
+        Row::new("STM of 2 words", vec![0x9910, address], address, 2),
+        Row::new("STM of 16 words", vec![0x99F0, address], address, 16),
+        Row::new("POPM R4,R5", vec![0x8F45], address, 2).with(15, address),
+        Row::new("POPM R0,R15", vec![0x8F0F], address, 16).with(15, address),
+        Row::new("POPM R15,R14", vec![0x8FFE], address, 16).with(15, address),
+        Row::new("PSHM R4,R5", vec![0x9F45], address, 2).with(15, above(2)),
+        Row::new("PSHM R0,R15", vec![0x9F0F], address, 16).with(15, above(16)),
+        Row::new("PSHM R15,R14", vec![0x9FFE], address, 16).with(15, above(16)),
+    ]
+}
+
+/// XIO with the command SMK.
+pub(crate) fn command() -> Row {
+    Row::new("XIO SMK", vec![0x4800 | (RA << 4), 0x2000], 0, 0)
+}
+
 /// The instructions without an operand in memory; BEX is with the interrupts, XIO with the
 /// commands.
 fn unmoved() -> Vec<Row> {
@@ -360,11 +396,25 @@ fn unmoved() -> Vec<Row> {
 
 /// Every instruction in every mode for an operand at an address; of the base registers R12 alone.
 pub(crate) fn rows(address: u16) -> Vec<Row> {
-    let memory = direct(address).chain(indirect(address)).chain(based(address, 0));
+    let memory = direct(address).chain(indirect(address, POINTER)).chain(based(address, 0));
     memory.chain(stacked(address)).chain(unmoved()).collect()
 }
 
 /// The base relative modes with R13 to R15.
 pub(crate) fn other_bases(address: u16) -> Vec<Row> {
     (1..4).flat_map(|base| based(address, base)).collect()
+}
+
+/// The modes in which a register carries the sum from below FFFF to a low address: that of the
+/// operand, of a jump's target, or of the indirect word.
+pub(crate) fn carried() -> Vec<Row> {
+    let low = 0x0006;
+    let rows = direct(low).chain(based(low, 0)).chain(indirect(0x2100, low));
+    rows.filter(Row::summed).collect()
+}
+
+/// The modes with an index register.
+pub(crate) fn with_index(address: u16) -> Vec<Row> {
+    let rows = direct(address).chain(indirect(address, POINTER)).chain(based(address, 0));
+    rows.filter(|row| row.registers.iter().any(|(number, _)| *number == RX)).collect()
 }

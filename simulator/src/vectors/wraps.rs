@@ -1,14 +1,15 @@
 //! Wrap-around: addresses from FFFF to 0000, registers from R15 to R0, the stack, IC.
 
 use super::case::{Case, CODE};
-use super::table::{rows, Row, VALUES};
+use super::table::{blocks, carried, command, rows, with_index, Row, INDEX, VALUES};
 
 /// The operand across the end of the addresses; page 15 is frame 3.
 fn operand(row: &Row, before: u16) -> Case {
-    let words = &VALUES[0].1[..usize::from(row.words)];
+    let words = row.operand(&VALUES[0]);
     let (end, start) = words.split_at(words.len().min(usize::from(before)));
     let case = row.bare(CODE, &VALUES[0]).page(15, 0x0003);
-    case.memory(0x4000 - before, end).memory(0, start).also("operand from FFFF to 0000")
+    let title = format!("operand from FFFF to 0000, {before} of {} words before", row.words);
+    case.memory(0x4000 - before, end).memory(0, start).also(&title)
 }
 
 /// The two words of an instruction at FFFF and 0000.
@@ -42,9 +43,28 @@ fn registers(cases: &mut Vec<Case>) {
             }
         }
         if row.words == 0 && row.code.len() == 1 && row.code[0] < 0xFF00 {
-            for (a, b) in [(15, 8), (8, 15), (15, 15), (4, 5)] {
+            for (a, b) in [(15, 8), (8, 15), (15, 15), (4, 5), (5, 4), (6, 4), (4, 6), (0, 15)] {
                 cases.push(fielded(&row, a, Some(b)));
             }
+        }
+    }
+}
+
+/// The index register among the registers that the first field, or a base mode, works on.
+fn indices(cases: &mut Vec<Case>) {
+    for row in with_index(0x2100) {
+        let (case, first) = (row.case(&VALUES[0]), row.code[0]);
+        if first < 0x4400 {
+            for x in [1, 2] {
+                let case = case.clone().memory(CODE, &[(first & 0xFFF0) | x]);
+                cases.push(case.registers(x, &[INDEX]).also(&format!("indexed with R{x}")));
+            }
+            continue;
+        }
+        for a in 10 - row.words.clamp(1, 3)..10 {
+            let case = case.clone().memory(CODE, &[(first & 0xFF0F) | (a << 4)]);
+            let case = case.registers(a, &VALUES[0].0).registers(9, &[INDEX]);
+            cases.push(case.also(&format!("fields {a} and 9")));
         }
     }
 }
@@ -66,8 +86,16 @@ fn counters(cases: &mut Vec<Case>) {
     cases.push(case.memory(0x0005, &[0x2100]).memory(0x2100, &[0x4444]));
     let case = Case::on("LI through the word at FFFF", &[0x8410, 0xFFFF]).page(15, 0x0003);
     cases.push(case.memory(0x3FFF, &[0x2100]).memory(0x2100, &[0x4444]));
+    let case = Case::on("SJS with an index past FFFF", &[0x7E49, 0xFFF0]);
+    cases.push(case.registers(9, &[0x0315]).registers(4, &[0x0800]));
+    let case = Case::on("LIM with an index past FFFF", &[0x8549, 0xFFF0]);
+    cases.push(case.registers(9, &[0x0015]));
     let case = Case::on("JS at FFFF", &[]).memory(0x3FFF, &[0x7240]).memory(0, &[0x0300]);
     cases.push(case.ic(0xFFFF).fetch_page(15, 0x0003));
+}
+
+/// MOV to and from addresses across FFFF.
+fn moves(cases: &mut Vec<Case>) {
     let case = Case::on("MOV of three words past FFFF", &[0x9348]).page(15, 0x0003).steps(4);
     let case = case.registers(4, &[0xFFFE, 3]).registers(8, &[0x0300]);
     cases.push(case.memory(0x0300, &[0x1111, 0x2222, 0x3333]));
@@ -76,8 +104,8 @@ fn counters(cases: &mut Vec<Case>) {
     cases.push(case.memory(0, &[0x5555, 0x6666]));
 }
 
-/// All cases of this group.
-pub(crate) fn cases(cases: &mut Vec<Case>) {
+/// Operands across the end of the addresses: one word to five, and blocks of up to sixteen.
+fn operands(cases: &mut Vec<Case>) {
     for (before, least) in [(1, 1), (2, 3), (4, 5)] {
         for row in rows(0x0000_u16.wrapping_sub(before)) {
             if row.words >= least && !row.indexed() {
@@ -85,15 +113,26 @@ pub(crate) fn cases(cases: &mut Vec<Case>) {
             }
         }
     }
-    // An index or a base that carries the sum past FFFF.
-    for row in rows(0x0006).iter().filter(|row| row.words > 0 && row.name.contains('X')) {
+    for before in [1, 8, 15] {
+        for row in blocks(0x0000_u16.wrapping_sub(before)).iter().filter(|row| row.words > before) {
+            cases.push(operand(row, before));
+        }
+    }
+}
+
+/// All cases of this group.
+pub(crate) fn cases(cases: &mut Vec<Case>) {
+    operands(cases);
+    for row in carried() {
         cases.push(row.case(&VALUES[1]).also("sum past FFFF"));
     }
-    for row in rows(0x2100).iter().filter(|row| row.code.len() == 2) {
-        if !row.indexed() {
+    for row in rows(0x2100).iter().chain([&command()]) {
+        if row.code.len() == 2 && !row.indexed() {
             cases.push(fetched(row));
         }
     }
     registers(cases);
+    indices(cases);
     counters(cases);
+    moves(cases);
 }

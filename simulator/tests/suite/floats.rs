@@ -1,4 +1,5 @@
-//! Floats of both widths (5.60 to 5.62, 5.68 to 5.70, 5.74, 5.75, 5.79, 5.80, 5.85 to 5.88, 5.94, 5.95).
+//! Floats of both widths (5.60 to 5.62, 5.68 to 5.70, 5.74, 5.75, 5.79, 5.80, 5.85 to 5.88, 5.94,
+//! 5.95).
 
 use crate::bench::{on, Bench, Numbers};
 use simulator::floats::{compared, difference, product, quotient, sum};

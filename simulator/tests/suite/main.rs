@@ -2,11 +2,13 @@
 
 mod bench;
 mod bits;
+mod cases;
 mod commands;
 mod decisions;
 mod decisions_floats;
 mod door;
 mod floats;
+mod forms;
 mod integers;
 mod interrupts;
 mod jumps;
@@ -25,3 +27,5 @@ mod stores;
 mod tables;
 mod timers;
 mod vectors;
+mod vectors_at_edges;
+mod vectors_of_rules;

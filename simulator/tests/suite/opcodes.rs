@@ -21,7 +21,7 @@ const TWO: &[u16] = &[
 ];
 
 /// The length of an instruction by its first word, 0 for an illegal one.
-fn length(word: u16) -> u16 {
+pub fn length(word: u16) -> u16 {
     let opcode = word >> 8;
     let immediate = opcode == 0x4A && (0x1..=0xB).contains(&(word & 0xF));
     if opcode <= 0x43 || ONE.contains(&opcode) {
@@ -33,11 +33,6 @@ fn length(word: u16) -> u16 {
     } else {
         0
     }
-}
-
-/// Whether an opcode has an instruction.
-pub fn legal(opcode: u16) -> bool {
-    (0..=0xFF).any(|rest| length((opcode << 8) | rest) > 0)
 }
 
 /// Whether an opcode has an address or a command in its second word, with or without an index.

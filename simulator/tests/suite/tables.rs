@@ -3,23 +3,70 @@
 use crate::bench::{on, Bench};
 use simulator::{Float, EXTENDED, SINGLE};
 
+/// Table I: values and their words.
+pub const TABLE_1: [(i32, u16); 12] = [
+    (32767, 0x7FFF),
+    (16384, 0x4000),
+    (4096, 0x1000),
+    (2, 0x0002),
+    (1, 0x0001),
+    (0, 0x0000),
+    (-1, 0xFFFF),
+    (-2, 0xFFFE),
+    (-4096, 0xF000),
+    (-16384, 0xC000),
+    (-32767, 0x8001),
+    (-32768, 0x8000),
+];
+
+/// Table II: values and their double words.
+pub const TABLE_2: [(i64, u32); 10] = [
+    (2_147_483_647, 0x7FFF_FFFF),
+    (1_073_741_824, 0x4000_0000),
+    (2, 0x0000_0002),
+    (1, 0x0000_0001),
+    (0, 0x0000_0000),
+    (-1, 0xFFFF_FFFF),
+    (-2, 0xFFFF_FFFE),
+    (-1_073_741_824, 0xC000_0000),
+    (-2_147_483_647, 0x8000_0001),
+    (-2_147_483_648, 0x8000_0000),
+];
+
+/// The last bit of a mantissa of 24 bits.
+const LAST: f64 = 1.0 / 8_388_608.0;
+/// Table III: mantissas, exponents and the words of both.
+pub const TABLE_3: [(f64, i32, [u16; 2]); 11] = [
+    (1.0 - LAST, 127, [0x7FFF, 0xFF7F]),
+    (0.5, 127, [0x4000, 0x007F]),
+    (0.625, 4, [0x5000, 0x0004]),
+    (0.5, 1, [0x4000, 0x0001]),
+    (0.5, 0, [0x4000, 0x0000]),
+    (0.5, -1, [0x4000, 0x00FF]),
+    (0.5, -128, [0x4000, 0x0080]),
+    (0.0, 0, [0x0000, 0x0000]),
+    (-1.0, 0, [0x8000, 0x0000]),
+    (-0.5 - LAST, -128, [0xBFFF, 0xFF80]),
+    (-0.75 - LAST, 4, [0x9FFF, 0xFF04]),
+];
+
+/// Table IV, likewise.
+pub const TABLE_4: [(f64, i32, [u16; 3]); 10] = [
+    (0.5, 127, [0x4000, 0x007F, 0]),
+    (0.5, 0, [0x4000, 0x0000, 0]),
+    (0.5, -1, [0x4000, 0x00FF, 0]),
+    (0.5, -128, [0x4000, 0x0080, 0]),
+    (-1.0, 127, [0x8000, 0x007F, 0]),
+    (-1.0, 0, [0x8000, 0x0000, 0]),
+    (-1.0, -1, [0x8000, 0x00FF, 0]),
+    (-1.0, -128, [0x8000, 0x0080, 0]),
+    (0.0, 0, [0x0000, 0x0000, 0]),
+    (-0.75, -1, [0xA000, 0x00FF, 0]),
+];
+
 #[test]
 fn table_1_single_words() {
-    let rows: [(i32, u16); 12] = [
-        (32767, 0x7FFF),
-        (16384, 0x4000),
-        (4096, 0x1000),
-        (2, 0x0002),
-        (1, 0x0001),
-        (0, 0x0000),
-        (-1, 0xFFFF),
-        (-2, 0xFFFE),
-        (-4096, 0xF000),
-        (-16384, 0xC000),
-        (-32767, 0x8001),
-        (-32768, 0x8000),
-    ];
-    for (value, word) in rows {
+    for (value, word) in TABLE_1 {
         let condition = [1, 2, 4][(value.signum() + 1) as usize];
         on(&[0x8110]).with(0, &[word]).go().has(1, &[word]).fine(condition, 0);
         // Multiplied by 1 to a double word: the same value, wider.
@@ -31,19 +78,7 @@ fn table_1_single_words() {
 
 #[test]
 fn table_2_double_words() {
-    let rows: [(i64, u32); 10] = [
-        (2_147_483_647, 0x7FFF_FFFF),
-        (1_073_741_824, 0x4000_0000),
-        (2, 0x0000_0002),
-        (1, 0x0000_0001),
-        (0, 0x0000_0000),
-        (-1, 0xFFFF_FFFF),
-        (-2, 0xFFFF_FFFE),
-        (-1_073_741_824, 0xC000_0000),
-        (-2_147_483_647, 0x8000_0001),
-        (-2_147_483_648, 0x8000_0000),
-    ];
-    for (value, word) in rows {
+    for (value, word) in TABLE_2 {
         assert_eq!(i64::from(word as i32), value);
         let condition = [1, 2, 4][(value.signum() + 1) as usize];
         let words = [(word >> 16) as u16, word as u16];
@@ -58,21 +93,7 @@ fn value(float: Float, bits: u32) -> f64 {
 
 #[test]
 fn table_3_floats() {
-    let last = f64::powi(2.0, -23);
-    let rows: [(f64, i32, [u16; 2]); 11] = [
-        (1.0 - last, 127, [0x7FFF, 0xFF7F]),
-        (0.5, 127, [0x4000, 0x007F]),
-        (0.625, 4, [0x5000, 0x0004]),
-        (0.5, 1, [0x4000, 0x0001]),
-        (0.5, 0, [0x4000, 0x0000]),
-        (0.5, -1, [0x4000, 0x00FF]),
-        (0.5, -128, [0x4000, 0x0080]),
-        (0.0, 0, [0x0000, 0x0000]),
-        (-1.0, 0, [0x8000, 0x0000]),
-        (-0.5 - last, -128, [0xBFFF, 0xFF80]),
-        (-0.75 - last, 4, [0x9FFF, 0xFF04]),
-    ];
-    for (mantissa, exponent, [upper, lower]) in rows {
+    for (mantissa, exponent, [upper, lower]) in TABLE_3 {
         let float = Float::unpack([upper, lower, 0], SINGLE);
         assert_eq!(float.exponent, exponent);
         assert_eq!(value(float, 24), mantissa * f64::powi(2.0, exponent));
@@ -82,19 +103,7 @@ fn table_3_floats() {
 
 #[test]
 fn table_4_extended_floats() {
-    let rows: [(f64, i32, [u16; 3]); 10] = [
-        (0.5, 127, [0x4000, 0x007F, 0]),
-        (0.5, 0, [0x4000, 0x0000, 0]),
-        (0.5, -1, [0x4000, 0x00FF, 0]),
-        (0.5, -128, [0x4000, 0x0080, 0]),
-        (-1.0, 127, [0x8000, 0x007F, 0]),
-        (-1.0, 0, [0x8000, 0x0000, 0]),
-        (-1.0, -1, [0x8000, 0x00FF, 0]),
-        (-1.0, -128, [0x8000, 0x0080, 0]),
-        (0.0, 0, [0x0000, 0x0000, 0]),
-        (-0.75, -1, [0xA000, 0x00FF, 0]),
-    ];
-    for (mantissa, exponent, words) in rows {
+    for (mantissa, exponent, words) in TABLE_4 {
         let float = Float::unpack(words, EXTENDED);
         assert_eq!(float.exponent, exponent);
         assert_eq!(value(float, 40), mantissa * f64::powi(2.0, exponent));

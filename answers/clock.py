@@ -1,0 +1,29 @@
+# The answers from which the proofs of the crate `clock` are written.
+OWN = 'Rattle.clock.specs.Later.'
+
+# nothing rises within the time that is left
+RAISED = 'omega (arith, @Start .pre (@if1 .taken))'
+CALM = ('record { a-inside = λ e. omega (arith, @room .ensures .2 e, @room2 .ensures .1); b-inside = λ e. omega (arith, @room2 .ensures .2 e); '
+        'count-inside = omega arith }')
+QUIET = '(rw (← @room .ensures .0, ← @room2 .ensures .0, %s) refl, omega (arith, @room .ensures .1, @room2 .ensures .1), ' + CALM + ')'
+
+A = {
+    'time/release': by(STEP + ' released', STATE + ' withHold', lean=True, returns='λ regs. refl'),
+    'time/fault': by(STEP + ' faulted', STATE + ' withIc withPi withFt', lean=True, returns='λ regs. refl'),
+    'time/rise': by(STEP + ' risen', SPANS + ' wrapped', lean=True, returns='rw (@if1 .taken) (@wrapping-add-u16 .ensures)', returns_2='rw (@if1 .left)'),
+    'time/pass': by(STEP + ' passing', use=[TESTS], lean=True,
+        returns='λ n e. rw (@if1 .taken, eq-eqb _ _ (@if2 .taken)) e', returns_2='λ n e. rw (@if1 .taken, ne-eqb _ _ (@if2 .left))', returns_3='λ n e. rw (@if1 .left)'),
+    'time/rises_b': by(lean=True, returns='rw (@if1 .taken)', returns_2='rw (@if1 .left)'),
+    'time/tick': by(STEP + ' ticked counted risesB', STATE + ' withPi withTa withTb withCount', lean=True,
+        returns='λ regs. rw (← @wrapping-add-u32 .ensures, ← @rises-b .ensures, ← @pass .ensures 7 refl, ← @pass2 .ensures 9 refl, ← @rise .ensures, ← @rise2 .ensures) refl'),
+    'later/raised': by(use=[OMEGA], add_result=RAISED, cast_result=RAISED, returns='rw (@if1 .taken)', returns_2='rw (@if1 .left)'),
+    'later/tick_by': by(use=[OMEGA], add_count='omega (arith, @Start .pre .count-inside)', sub_tens='omega arith',
+        raised_requires='@Start .pre .a-inside', raised_requires_2='λ e. omega (arith, @Start .pre .b-inside e)',
+        returns='λ regs. rw (← @raised .ensures, ← @raised2 .ensures) refl'),
+    'later/room': by(OWN + ' roomOf', use=[OMEGA, LIMITS], then=['mathlib.Core.Bool.{false≢true}'],
+        returns='(rw (@if1 .taken, lt-ltb _ _ (@if2 .taken)) refl, omega arith, λ e. omega arith)',
+        returns_2='(rw (@if1 .taken, le-ltb _ _ (@if2 .left)) refl, omega arith, λ e. omega arith)',
+        returns_3='(rw (@if1 .left) refl, omega arith, λ e. absurd (false≢true (sym (@if1 .left) ∙ e)))'),
+    'later/quiet': by(OWN + ' quietOf', use=[OMEGA, LIMITS],
+        returns=QUIET % 'lt-ltb _ _ (@if1 .taken)', returns_2=QUIET % 'le-ltb _ _ (@if1 .left)'),
+}
