@@ -14,6 +14,11 @@ use access::addressing::double_operand;
 use access::addressing::operand_of;
 use access::fields::field_a;
 use access::fields::get;
+use bits::bytes::exchange_bytes;
+use bits::logic::and;
+use bits::logic::nand;
+use bits::logic::or;
+use bits::logic::xor;
 use divide::products::multiply_long;
 use divide::products::multiply16;
 use divide::quotients::divide_long;
@@ -29,14 +34,9 @@ use fixed::sums::negate16;
 use fixed::sums::negate32;
 use fixed::sums::sub16;
 use machine::Instruction;
-use bits::bytes::exchange_bytes;
 use word::compare::compare_limits;
 use word::compare::compare16;
 use word::compare::compare32;
-use bits::logic::and;
-use bits::logic::nand;
-use bits::logic::or;
-use bits::logic::xor;
 
 pub mod outcomes;
 
