@@ -8,6 +8,7 @@ A = importing({
         'loop-holds': 'filled-none _ _', 'rem-words': 'omega arith', 'cast-words': 'omega (arith, mod-lt (@loop .i) {m = @args .period} (omega arith))',
         'loop-again': 'filled-more _ _ _ _ _ (@loop .inv) (@loop-test .taken) refl', 'same-length': 'filled-length _ _ _ _ (@loop .inv)',
         'returns': 'filled-all _ _ _ _ (@loop .inv) (@loop-test .left)'},
-    'reset': {'unf': {'*': 'resetState resetPages resetMachine'},
-        'returns': 'record { state-is = refl; memory-is = @fill .ensures ∙ zeros _; pages-is = @fill2 .ensures; ports-is = @fill3 .ensures ∙ zeros _ }'},
+    'reset_state': {'unf': {'*': 'resetState'}, 'returns': 'refl'},
+    'reset': {'unf': {'*': 'resetPages resetMachine'},
+        'returns': 'record { state-is = @reset-state .ensures; memory-is = @fill .ensures ∙ zeros _; pages-is = @fill2 .ensures; ports-is = @fill3 .ensures ∙ zeros _ }'},
 })

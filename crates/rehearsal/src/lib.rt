@@ -28,25 +28,6 @@ fn run_and_report(
     report::report(1000, left, out)
 }
 
-// A state to load on: an accepted image replaces it, and after a refusal nobody looks at it.
-fn given() -> State {
-    State {
-        regs: [0; 16],
-        ic: 0,
-        sw: 0,
-        mk: 0,
-        pi: 0,
-        ft: 0,
-        enabled: false,
-        hold: false,
-        ta: 0,
-        tb: 0,
-        taon: false,
-        tbon: false,
-        count: 0,
-    }
-}
-
 // The program's text for an input, on the memory, page registers and ports that it holds, whatever they contain; a refusal leaves them.
 pub fn rehearse(
     input: &[u8],
@@ -62,7 +43,7 @@ pub fn rehearse(
     if 32768 < input.len() {
         return report::refusal(13, out);
     }
-    let loaded = loader::load(given(), input, memory, pages, ports);
+    let loaded = loader::load(reset::reset_state(), input, memory, pages, ports);
     let answer = loaded.answer;
     let refused = image::door::number(answer) as u32;
     if refused != 0 {

@@ -3,7 +3,7 @@ ghost use mathlib.Core.Path.{_≡_};
 ghost use Prim.Native.Nat.{_<_, _≤_};
 ghost use lib.ListN.{length};
 ghost use Rattle.machine.specs.Machine.{Became};
-ghost use Rattle.reset.specs.Reset.{cycle, resetMachine};
+ghost use Rattle.reset.specs.Reset.{resetState, cycle, resetMachine};
 use machine::State;
 
 // Each word its number modulo a period: 16 numbers the pages of every group, 1 makes all words 0; there is no other caller.
@@ -18,14 +18,10 @@ fn fill(words: &mut [u16], period: usize)
     }
 }
 
-// Reset of a machine of any size: its state is returned.
-pub fn reset(memory: &mut [u16], pages: &mut [u16], ports: &mut [u16]) -> State
-    ensures { λ r. ⌜ Became (resetMachine (length (now (memory .entry))) (length (now (pages .entry))) (length (now (ports .entry))))
-        r (now (memory .exit)) (now (pages .exit)) (now (ports .exit)) ⌝ }
+// The state after reset.
+pub fn reset_state() -> State
+    ensures { λ r. ⌜ r ≡ resetState ⌝ }
 {
-    fill(memory, 1);
-    fill(pages, 16);
-    fill(ports, 1);
     State {
         regs: [0; 16],
         ic: 0,
@@ -41,4 +37,15 @@ pub fn reset(memory: &mut [u16], pages: &mut [u16], ports: &mut [u16]) -> State
         tbon: true,
         count: 0,
     }
+}
+
+// Reset of a machine of any size: its state is returned.
+pub fn reset(memory: &mut [u16], pages: &mut [u16], ports: &mut [u16]) -> State
+    ensures { λ r. ⌜ Became (resetMachine (length (now (memory .entry))) (length (now (pages .entry))) (length (now (ports .entry))))
+        r (now (memory .exit)) (now (pages .exit)) (now (ports .exit)) ⌝ }
+{
+    fill(memory, 1);
+    fill(pages, 16);
+    fill(ports, 1);
+    reset_state()
 }

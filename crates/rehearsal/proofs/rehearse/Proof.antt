@@ -9,9 +9,9 @@ use Rattle.rehearsal.proofs.rehearse.Reads as reads
 use Rattle.rehearsal.proofs.rehearse.Lts as lts
 use Rattle.image.proofs.door.number.Reads as number-reads
 use Rattle.loader.proofs.load.Reads as load-reads
-use Rattle.rehearsal.proofs.given.Reads as given-reads
 use Rattle.rehearsal.proofs.run_and_report.Reads as run-and-report-reads
 use Rattle.report.proofs.refusal.Reads as refusal-reads
+use Rattle.reset.proofs.reset_state.Reads as reset-state-reads
 
 refusal-requires : tie.Need-refusal-requires
 refusal-requires c κs = search needs
@@ -19,8 +19,8 @@ refusal-requires c κs = search needs
 returns : tie.Need-returns
 returns c = (rw (too-long _ (c .before .before .if1 .taken)) (c .refusal .ensures), λ s. holds-own _ _ (too-long-left _ _ (c .before .before .if1 .taken)))
 
-given-requires : tie.Need-given-requires
-given-requires c κs = search needs
+reset-state-requires : tie.Need-reset-state-requires
+reset-state-requires c κs = search needs
 
 load-requires : tie.Need-load-requires
 load-requires c κs = search needs
@@ -49,7 +49,7 @@ rehearse-spec =
     (tie.spec
     refusal-requires
     returns
-    given-requires
+    reset-state-requires
     load-requires
     number-requires
     cast-refused
