@@ -13,7 +13,7 @@ ANSWERED = '_ _ _ _ (@loop-test .taken) _ (@check-entry .ensures) _ (@number .en
 
 A = importing({
     'Rattle.image.specs.Image': 'wordAt longAt countOf entryAt wordsBefore asked targetSize endOf share sharesEarlier entriesAnswer admission',
-    'Rattle.image.proofs.DoorLaws': 'words-more shares-none shares-here shares-on kind-below kind-above no-words outside shared entry-right '
+    'Rattle.image.proofs.QuestionLaws': 'words-more shares-none shares-here shares-on kind-below kind-above no-words outside shared entry-right '
         'entries-none entries-on entries-out no-count many-entries short-table bad-entry bad-bodies image-right',
 }, {
     'table/word_at': {'unf': {'*': 'wordAt'}, 'returns': 'rw (@wide .ensures .0, @wide2 .ensures .0) refl'},
@@ -26,37 +26,37 @@ A = importing({
         'loop-holds': '(omega arith, refl, omega arith)', 'cast-total': 'search needs',
         'loop-again': '(omega arith, rw (words-more, ← @loop .inv .1, ← @entry-at .ensures) refl, omega arith)',
         'returns': '(@loop .inv .1 ∙ ap (wordsBefore _) (omega arith), omega arith)'},
-    'door/whole_pages': {'unf': {'*': 'wholePages'},
+    'questions/whole_pages': {'unf': {'*': 'wholePages'},
         'returns': 'rw (ne-eqb _ _ (@if1 .taken)) refl', 'returns-2': 'rw (eq-eqb _ _ (@if1 .left), lt-leb _ _ (@if2 .taken)) refl',
         'returns-3': 'rw (eq-eqb _ _ (@if1 .left), le-leb _ _ (@if2 .left)) refl'},
-    'door/target_size': {'unf': {'*': 'targetSize'},
+    'questions/target_size': {'unf': {'*': 'targetSize'},
         'returns': 'rw (@match .keys1) refl', 'returns-2': 'rw (@match .keys2) refl', 'returns-3': 'rw (@match .keys3) refl',
         'returns-4': 'let n = @match .rest in rw (ne-eqb _ _ (n .0 .0 .1), ne-eqb _ _ (n .0 .1), ne-eqb _ _ (n .1)) refl'},
-    'door/shares': {'unf': {'*': 'share'},
+    'questions/shares': {'unf': {'*': 'share'},
         'returns': 'rw (ne-eqb _ _ (@if1 .taken)) refl',
         'returns-2': 'rw (eq-eqb _ _ (@if1 .left), ← @end .ensures, le-ltb _ _ (@if2 .taken)) refl',
         'returns-3': 'rw (eq-eqb _ _ (@if1 .left), ← @end .ensures, lt-ltb _ _ (@if2 .left), ← @end2 .ensures) refl'},
-    'door/shares_earlier': {'default': 'omega arith',
+    'questions/shares_earlier': {'default': 'omega arith',
         'Inv-loop': '(left ≤ k) × (sharesEarlier image e k ≡ sharesEarlier image e left)', 'μ-loop': 'left',
         'loop-holds': '(omega arith, refl)', 'shares-requires': 'search needs',
         'returns': 'shares-here %s (@if1 .taken) ∙ sym (@loop .inv .1)' % COMPARED, 'loop-again': '(omega arith, @loop .inv .1 ∙ shares-on %s (@if1 .left))' % COMPARED,
         'returns-2': 'sym (@loop .inv .1 ∙ shares-none _ _ _ (@loop-test .left))'},
-    'door/check_entry': {
+    'questions/check_entry': {
         'returns': 'kind-below %s (@if1 .taken)' % ENTRY, 'returns-2': 'kind-above %s (@if1 .left) (@if2 .taken)' % ENTRY,
         'returns-3': 'no-words %s (@if1 .left) (@if2 .left) (@if3 .taken)' % ENTRY, 'returns-4': 'outside %s (@if4 .taken)' % ANSWERABLE,
         'returns-5': 'shared %s (@if4 .left) _ (@shares-earlier .ensures) (@if5 .taken)' % ANSWERABLE,
         'returns-6': 'entry-right %s (@if4 .left) _ (@shares-earlier .ensures) (@if5 .left)' % ANSWERABLE},
-    'door/check_entries': {'default': 'omega arith',
+    'questions/check_entries': {'default': 'omega arith',
         'Inv-loop': '(k + left ≡ n) × (entriesAnswer memory image n 0 ≡ entriesAnswer memory image left k)', 'μ-loop': 'left',
         'loop-holds': '(omega arith, refl)', 'number-requires': 'search needs',
         'returns': 'entries-out %s (@if1 .taken) ∙ sym (@loop .inv .1)' % ANSWERED,
         'loop-again': '(omega arith, @loop .inv .1 ∙ entries-on %s (@if1 .left))' % ANSWERED,
         'returns-2': 'sym (@loop .inv .1 ∙ entries-none _ _ _ _ (@loop-test .left))'},
-    'door/check_image': {
+    'questions/check_image': {
         'returns': 'no-count _ _ (@if1 .taken)', 'returns-2': 'many-entries %s (@if2 .taken)' % COUNTED, 'returns-3': 'short-table %s (@if2 .left) (@if3 .taken)' % COUNTED,
         'returns-4': 'bad-entry %s (@if4 .taken)' % TABLE, 'returns-5': 'bad-bodies %s (@if4 .left) _ (@words-before .ensures .0) (@if5 .taken)' % TABLE,
         'returns-6': 'image-right %s (@if4 .left) _ (@words-before .ensures .0) (@if5 .left)' % TABLE},
-    'door/check': {'unf': {'*': 'admission asked'},
+    'questions/check': {'unf': {'*': 'admission asked'},
         'returns': 'rw (← @whole-pages .ensures, not-true (@whole-pages .result) (@if1 .taken)) refl',
         'returns-2': 'rw (%s, ne-eqb _ _ (@if2 .taken)) refl' % WHOLE, 'returns-3': 'rw (%s, eq-eqb _ _ (@if2 .left), ne-eqb _ _ (@if3 .taken)) refl' % WHOLE,
         'returns-4': 'rw (%s, eq-eqb _ _ (@if2 .left), eq-eqb _ _ (@if3 .left)) (@check-image .ensures)' % WHOLE},

@@ -1,9 +1,9 @@
 //! One case: a random machine and a series of calls, all from the case's own seed.
 
-use crate::door::{at_the_door, BUDGET};
 use crate::images::image;
 use crate::numbers::Numbers;
 use crate::plant::plant;
+use crate::refusals::{near_refusal, BUDGET};
 use crate::scene::{scene, stir};
 use crate::subject::{Call, Lent};
 
@@ -19,7 +19,7 @@ enum Kind {
     /// Images, each loaded and then run.
     Images,
     /// Lengths, budgets and counters at the limits.
-    Door,
+    Refusals,
 }
 
 /// The calls that a case makes.
@@ -39,7 +39,7 @@ impl Case {
         let (kind, calls) = match numbers.below(64) {
             0 => (Kind::Long, 1),
             1..=3 => (Kind::Images, 12),
-            4..=5 => (Kind::Door, 12),
+            4..=5 => (Kind::Refusals, 12),
             6..=31 => (Kind::Stream, 12),
             _ => (Kind::Single, 192),
         };
@@ -69,7 +69,7 @@ impl Case {
             Kind::Long => Call::Run(5_000 + numbers.below(45_000)),
             Kind::Images if self.made % 2 == 1 => Call::Load(image(numbers, lent.memory.len())),
             Kind::Images => Call::Run(numbers.below(100)),
-            Kind::Door => at_the_door(numbers, lent),
+            Kind::Refusals => near_refusal(numbers, lent),
         }
     }
 }

@@ -137,10 +137,10 @@ fn mistakes_in_a_step() {
     }
 }
 
-/// The simulator with a mistake at the door, chosen by number.
-struct WrongDoor(u32);
+/// The simulator with a mistake in a whole call, chosen by number.
+struct WrongCall(u32);
 
-impl Subject for WrongDoor {
+impl Subject for WrongCall {
     fn run(&mut self, budget: u32, lent: &mut Lent) -> u32 {
         let rest = lent.state.last().copied();
         let answer = Simulated.run(budget, lent);
@@ -171,7 +171,7 @@ impl Subject for WrongDoor {
 }
 
 #[test]
-fn mistakes_at_the_door() {
+fn mistakes_in_a_call() {
     let mistakes = [
         "one step more is accepted",
         "the last word of the packed state is kept",
@@ -180,6 +180,6 @@ fn mistakes_at_the_door() {
         "a port is not reset",
     ];
     for (number, what) in (0..).zip(mistakes) {
-        caught(what, &mut WrongDoor(number));
+        caught(what, &mut WrongCall(number));
     }
 }

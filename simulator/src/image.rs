@@ -1,6 +1,6 @@
 //! The image format: a table of entries, then their bodies.
 
-use crate::door;
+use crate::questions;
 use crate::state::{reset, State, PAGE_REGISTERS};
 
 /// The most entries of an image.
@@ -42,9 +42,9 @@ pub fn load(
     pages: &mut [u16],
     ports: &mut [u16],
 ) -> Result<State, u32> {
-    door::memory(memory)?;
-    let pages = door::pages(pages)?;
-    let ports = door::ports(ports)?;
+    questions::memory(memory)?;
+    let pages = questions::pages(pages)?;
+    let ports = questions::ports(ports)?;
     let (entries, bodies) = table(image, memory.len())?;
     let mut state = reset(memory, pages, ports);
     let mut words = bodies.chunks_exact(2).map(number);

@@ -1,6 +1,6 @@
 //! The machine with everything lent to it: one step, the tick at its end, and a run of steps.
 
-use crate::door;
+use crate::questions;
 use crate::state::{State, MACHINE_ERROR, PAGE_REGISTERS, PORTS};
 
 /// Why an instruction is given up: the bit that it sets in FT (4.4.2.3).
@@ -92,10 +92,10 @@ pub fn run(
     ports: &mut [u16],
     budget: u32,
 ) -> Result<(), u32> {
-    door::memory(memory)?;
-    let pages = door::pages(pages)?;
-    let ports = door::ports(ports)?;
-    door::budget(state.counter, budget)?;
+    questions::memory(memory)?;
+    let pages = questions::pages(pages)?;
+    let ports = questions::ports(ports)?;
+    questions::budget(state.counter, budget)?;
     let mut machine = Machine { state, memory, pages, ports };
     for _ in 0..budget {
         machine.step();

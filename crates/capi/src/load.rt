@@ -21,7 +21,7 @@ pub extern "C" fn twin1750_load(
     let given = unpack(state);
     let loaded = loader::load(given, image, memory, pages, ports);
     let answer = loaded.answer;
-    let refused = image::door::number(answer) as u32;
+    let refused = image::questions::number(answer) as u32;
     if refused != 0 {
         return refused;
     }

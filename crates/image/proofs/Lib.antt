@@ -1,4 +1,4 @@
 -- The laws of the questions to an image.
-pub mod DoorLaws
+pub mod QuestionLaws
 pub mod SoundLaws
 pub mod ShareLaws

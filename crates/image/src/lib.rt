@@ -1,5 +1,5 @@
 // Images (Scope, "Image"): their table, and the questions to them.
-pub mod door;
+pub mod questions;
 pub mod table;
 
 // An entry of an image's table: its kind (1 memory, 2 page registers, 3 R0 to R15, 4 the words IC, SW, MK, PI, FT), and the first word

@@ -13,7 +13,7 @@ use Rattle.machine.specs.State.{withRegs}
 use Rattle.machine.specs.Machine.{Machine, machine, Became}
 use Rattle.image.specs.declared.Entry.{Entry}
 use Rattle.image.specs.Image.{wordAt, countOf, entryAt, wordsBefore, tableEnd, bodyAt, wordsFrom, targetSize, endOf, controlOf, withControl, withWords, withBody, withBodies}
-use Rattle.image.proofs.DoorLaws.{words-more}
+use Rattle.image.proofs.QuestionLaws.{words-more}
 use Rattle.image.proofs.SoundLaws.{Sound}
 
 -- ---- the words of one body

@@ -1,4 +1,4 @@
--- Runs with the checks before them (the Scope's questions at the door), and lists of runs. Assumes nothing.
+-- Runs with the checks before them (Scope, "Questions at the door"), and lists of runs. Assumes nothing.
 use Prim.Native.Nat.{ℕ, zero, suc, _+_, _%_}
 use mathlib.Core.Bool.{Bool, true, false, cond, _&&_}
 use mathlib.Core.List.{List, [], _∷_}

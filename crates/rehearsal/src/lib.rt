@@ -45,7 +45,7 @@ pub fn rehearse(
     }
     let loaded = loader::load(reset::reset_state(), input, memory, pages, ports);
     let answer = loaded.answer;
-    let refused = image::door::number(answer) as u32;
+    let refused = image::questions::number(answer) as u32;
     if refused != 0 {
         return report::refusal(refused, out);
     }

@@ -6,8 +6,8 @@ use Rattle.loader.proofs.load.Statement.{statement}
 use Rattle.loader.proofs.load.Tie as tie
 use Rattle.loader.proofs.load.Reads as reads
 use Rattle.loader.proofs.load.Lts as lts
-use Rattle.image.proofs.door.check.Reads as check-reads
-use Rattle.image.proofs.door.number.Reads as number-reads
+use Rattle.image.proofs.questions.check.Reads as check-reads
+use Rattle.image.proofs.questions.number.Reads as number-reads
 use Rattle.loader.proofs.write_bodies.Reads as write-bodies-reads
 use Rattle.reset.proofs.reset.Reads as reset-reads
 

@@ -7,7 +7,7 @@ use Rattle.rehearsal.proofs.rehearse.Statement.{statement}
 use Rattle.rehearsal.proofs.rehearse.Tie as tie
 use Rattle.rehearsal.proofs.rehearse.Reads as reads
 use Rattle.rehearsal.proofs.rehearse.Lts as lts
-use Rattle.image.proofs.door.number.Reads as number-reads
+use Rattle.image.proofs.questions.number.Reads as number-reads
 use Rattle.loader.proofs.load.Reads as load-reads
 use Rattle.rehearsal.proofs.run_and_report.Reads as run-and-report-reads
 use Rattle.report.proofs.refusal.Reads as refusal-reads

@@ -10,7 +10,7 @@ use Rattle.capi.proofs.load.twin1750_load.Reads as reads
 use Rattle.capi.proofs.load.twin1750_load.Lts as lts
 use Rattle.packed.proofs.pack.Reads as pack-reads
 use Rattle.packed.proofs.unpack.Reads as unpack-reads
-use Rattle.image.proofs.door.number.Reads as number-reads
+use Rattle.image.proofs.questions.number.Reads as number-reads
 use Rattle.loader.proofs.load.Reads as load-reads
 
 returns : tie.Need-returns

@@ -3,7 +3,7 @@ use Prim.Native.Nat.{_-_, _*_, _≤_}
 use mathlib.Core.Path.{_≡_, refl, ap, _∙_}
 use native.Mathlib.Omega.{arith}
 use Rattle.image.specs.Image.{wordsBefore}
-use Rattle.image.proofs.DoorLaws.{words-more}
+use Rattle.image.proofs.QuestionLaws.{words-more}
 use borrow.Author.Needs.{needs}
 use Rattle.image.proofs.table.words_before.Statement.{statement}
 use Rattle.image.proofs.table.words_before.Tie as tie

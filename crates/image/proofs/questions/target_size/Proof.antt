@@ -1,12 +1,12 @@
--- `image::door::target_size` meets its contract. Assumes nothing.
+-- `image::questions::target_size` meets its contract. Assumes nothing.
 use mathlib.Core.Path.{refl}
 use borrow.Author.Tests.{ne-eqb}
 use Rattle.image.specs.Image.{targetSize}
 use borrow.Author.Needs.{needs}
-use Rattle.image.proofs.door.target_size.Statement.{statement}
-use Rattle.image.proofs.door.target_size.Tie as tie
-use Rattle.image.proofs.door.target_size.Reads as reads
-use Rattle.image.proofs.door.target_size.Lts as lts
+use Rattle.image.proofs.questions.target_size.Statement.{statement}
+use Rattle.image.proofs.questions.target_size.Tie as tie
+use Rattle.image.proofs.questions.target_size.Reads as reads
+use Rattle.image.proofs.questions.target_size.Lts as lts
 
 returns : tie.Need-returns
 unfolding targetSize

@@ -1,12 +1,12 @@
--- `image::door::check_image` meets its contract. Assumes nothing.
-use Rattle.image.proofs.DoorLaws.{no-count, many-entries, short-table, bad-entry, bad-bodies, image-right}
+-- `image::questions::check_image` meets its contract. Assumes nothing.
+use Rattle.image.proofs.QuestionLaws.{no-count, many-entries, short-table, bad-entry, bad-bodies, image-right}
 use borrow.Author.Needs.{needs}
-use Rattle.image.proofs.door.check_image.Statement.{statement}
-use Rattle.image.proofs.door.check_image.Tie as tie
-use Rattle.image.proofs.door.check_image.Reads as reads
-use Rattle.image.proofs.door.check_image.Lts as lts
-use Rattle.image.proofs.door.check_entries.Reads as check-entries-reads
-use Rattle.image.proofs.door.number.Reads as number-reads
+use Rattle.image.proofs.questions.check_image.Statement.{statement}
+use Rattle.image.proofs.questions.check_image.Tie as tie
+use Rattle.image.proofs.questions.check_image.Reads as reads
+use Rattle.image.proofs.questions.check_image.Lts as lts
+use Rattle.image.proofs.questions.check_entries.Reads as check-entries-reads
+use Rattle.image.proofs.questions.number.Reads as number-reads
 use Rattle.image.proofs.table.count.Reads as count-reads
 use Rattle.image.proofs.table.words_before.Reads as words-before-reads
 

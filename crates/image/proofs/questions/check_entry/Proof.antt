@@ -1,12 +1,12 @@
--- `image::door::check_entry` meets its contract. Assumes nothing.
-use Rattle.image.proofs.DoorLaws.{kind-below, kind-above, no-words, outside, shared, entry-right}
+-- `image::questions::check_entry` meets its contract. Assumes nothing.
+use Rattle.image.proofs.QuestionLaws.{kind-below, kind-above, no-words, outside, shared, entry-right}
 use borrow.Author.Needs.{needs}
-use Rattle.image.proofs.door.check_entry.Statement.{statement}
-use Rattle.image.proofs.door.check_entry.Tie as tie
-use Rattle.image.proofs.door.check_entry.Reads as reads
-use Rattle.image.proofs.door.check_entry.Lts as lts
-use Rattle.image.proofs.door.shares_earlier.Reads as shares-earlier-reads
-use Rattle.image.proofs.door.target_size.Reads as target-size-reads
+use Rattle.image.proofs.questions.check_entry.Statement.{statement}
+use Rattle.image.proofs.questions.check_entry.Tie as tie
+use Rattle.image.proofs.questions.check_entry.Reads as reads
+use Rattle.image.proofs.questions.check_entry.Lts as lts
+use Rattle.image.proofs.questions.shares_earlier.Reads as shares-earlier-reads
+use Rattle.image.proofs.questions.target_size.Reads as target-size-reads
 use Rattle.image.proofs.table.end.Reads as end-reads
 use Rattle.image.proofs.table.entry_at.Reads as entry-at-reads
 

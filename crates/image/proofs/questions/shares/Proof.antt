@@ -1,12 +1,12 @@
--- `image::door::shares` meets its contract. Assumes nothing.
+-- `image::questions::shares` meets its contract. Assumes nothing.
 use mathlib.Core.Path.{refl}
 use borrow.Author.Tests.{eq-eqb, ne-eqb, lt-ltb, le-ltb}
 use Rattle.image.specs.Image.{share}
 use borrow.Author.Needs.{needs}
-use Rattle.image.proofs.door.shares.Statement.{statement}
-use Rattle.image.proofs.door.shares.Tie as tie
-use Rattle.image.proofs.door.shares.Reads as reads
-use Rattle.image.proofs.door.shares.Lts as lts
+use Rattle.image.proofs.questions.shares.Statement.{statement}
+use Rattle.image.proofs.questions.shares.Tie as tie
+use Rattle.image.proofs.questions.shares.Reads as reads
+use Rattle.image.proofs.questions.shares.Lts as lts
 use Rattle.image.proofs.table.end.Reads as end-reads
 
 returns : tie.Need-returns

@@ -1,12 +1,12 @@
--- `image::door::whole_pages` meets its contract. Assumes nothing.
+-- `image::questions::whole_pages` meets its contract. Assumes nothing.
 use mathlib.Core.Path.{refl}
 use borrow.Author.Tests.{eq-eqb, ne-eqb, le-leb, lt-leb}
 use Rattle.machine.specs.Runs.{wholePages}
 use borrow.Author.Needs.{needs}
-use Rattle.image.proofs.door.whole_pages.Statement.{statement}
-use Rattle.image.proofs.door.whole_pages.Tie as tie
-use Rattle.image.proofs.door.whole_pages.Reads as reads
-use Rattle.image.proofs.door.whole_pages.Lts as lts
+use Rattle.image.proofs.questions.whole_pages.Statement.{statement}
+use Rattle.image.proofs.questions.whole_pages.Tie as tie
+use Rattle.image.proofs.questions.whole_pages.Reads as reads
+use Rattle.image.proofs.questions.whole_pages.Lts as lts
 
 returns : tie.Need-returns
 unfolding wholePages

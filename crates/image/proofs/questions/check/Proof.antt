@@ -1,14 +1,14 @@
--- `image::door::check` meets its contract. Assumes nothing.
+-- `image::questions::check` meets its contract. Assumes nothing.
 use mathlib.Core.Path.{refl}
 use borrow.Author.Tests.{eq-eqb, ne-eqb, not-true, not-false}
 use Rattle.image.specs.Image.{asked, admission}
 use borrow.Author.Needs.{needs}
-use Rattle.image.proofs.door.check.Statement.{statement}
-use Rattle.image.proofs.door.check.Tie as tie
-use Rattle.image.proofs.door.check.Reads as reads
-use Rattle.image.proofs.door.check.Lts as lts
-use Rattle.image.proofs.door.check_image.Reads as check-image-reads
-use Rattle.image.proofs.door.whole_pages.Reads as whole-pages-reads
+use Rattle.image.proofs.questions.check.Statement.{statement}
+use Rattle.image.proofs.questions.check.Tie as tie
+use Rattle.image.proofs.questions.check.Reads as reads
+use Rattle.image.proofs.questions.check.Lts as lts
+use Rattle.image.proofs.questions.check_image.Reads as check-image-reads
+use Rattle.image.proofs.questions.whole_pages.Reads as whole-pages-reads
 
 whole-pages-requires : tie.Need-whole-pages-requires
 whole-pages-requires c κs = search needs

@@ -9,7 +9,7 @@ use crate::subject::{Call, Lent};
 pub const BUDGET: u32 = 1_000_000;
 
 /// Gives some list another length, or none, and makes a call at the limits.
-pub fn at_the_door(numbers: &mut Numbers, lent: &mut Lent) -> Call {
+pub fn near_refusal(numbers: &mut Numbers, lent: &mut Lent) -> Call {
     let memory = memory_words(numbers);
     lent.state.resize(STATE_WORDS, 0);
     lent.memory.resize(memory, 0);

@@ -1,15 +1,15 @@
--- `image::door::shares_earlier` meets its contract. Assumes nothing.
+-- `image::questions::shares_earlier` meets its contract. Assumes nothing.
 use Prim.Native.Nat.{_≤_}
 use mathlib.Core.Path.{_≡_, refl, sym, _∙_}
 use native.Mathlib.Omega.{arith}
 use Rattle.image.specs.Image.{sharesEarlier}
-use Rattle.image.proofs.DoorLaws.{shares-none, shares-here, shares-on}
+use Rattle.image.proofs.QuestionLaws.{shares-none, shares-here, shares-on}
 use borrow.Author.Needs.{needs}
-use Rattle.image.proofs.door.shares_earlier.Statement.{statement}
-use Rattle.image.proofs.door.shares_earlier.Tie as tie
-use Rattle.image.proofs.door.shares_earlier.Reads as reads
-use Rattle.image.proofs.door.shares_earlier.Lts as lts
-use Rattle.image.proofs.door.shares.Reads as shares-reads
+use Rattle.image.proofs.questions.shares_earlier.Statement.{statement}
+use Rattle.image.proofs.questions.shares_earlier.Tie as tie
+use Rattle.image.proofs.questions.shares_earlier.Reads as reads
+use Rattle.image.proofs.questions.shares_earlier.Lts as lts
+use Rattle.image.proofs.questions.shares.Reads as shares-reads
 use Rattle.image.proofs.table.entry_at.Reads as entry-at-reads
 
 abbrev Inv-loop : tie.InvT-loop

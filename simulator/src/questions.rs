@@ -1,4 +1,4 @@
-//! The questions at the door of running and loading: each "no" has its number.
+//! The questions before running and loading: each "no" has its number.
 
 use crate::state::{PAGE_REGISTERS, PORTS};
 

@@ -1,16 +1,16 @@
--- `image::door::check_entries` meets its contract. Assumes nothing.
+-- `image::questions::check_entries` meets its contract. Assumes nothing.
 use Prim.Native.Nat.{_+_}
 use mathlib.Core.Path.{_≡_, refl, sym, _∙_}
 use native.Mathlib.Omega.{arith}
 use Rattle.image.specs.Image.{entriesAnswer}
-use Rattle.image.proofs.DoorLaws.{entries-none, entries-on, entries-out}
+use Rattle.image.proofs.QuestionLaws.{entries-none, entries-on, entries-out}
 use borrow.Author.Needs.{needs}
-use Rattle.image.proofs.door.check_entries.Statement.{statement}
-use Rattle.image.proofs.door.check_entries.Tie as tie
-use Rattle.image.proofs.door.check_entries.Reads as reads
-use Rattle.image.proofs.door.check_entries.Lts as lts
-use Rattle.image.proofs.door.check_entry.Reads as check-entry-reads
-use Rattle.image.proofs.door.number.Reads as number-reads
+use Rattle.image.proofs.questions.check_entries.Statement.{statement}
+use Rattle.image.proofs.questions.check_entries.Tie as tie
+use Rattle.image.proofs.questions.check_entries.Reads as reads
+use Rattle.image.proofs.questions.check_entries.Lts as lts
+use Rattle.image.proofs.questions.check_entry.Reads as check-entry-reads
+use Rattle.image.proofs.questions.number.Reads as number-reads
 
 abbrev Inv-loop : tie.InvT-loop
 Inv-loop image memory n k₀ left₀ k left = (k + left ≡ n) × (entriesAnswer memory image n 0 ≡ entriesAnswer memory image left k)

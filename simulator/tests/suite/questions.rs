@@ -1,4 +1,4 @@
-//! The questions at the door: every number, the order of the questions, nothing changed.
+//! The questions before a call: every number, the order of the questions, nothing changed.
 
 use simulator::{load, run, State};
 
