@@ -10,6 +10,6 @@ fn main() {
     // one byte more than an image may have, so that a longer one is seen
     let mut input = [0u8; 32769];
     let n = io::read_full(STDIN_FILENO, &mut input);
-    let end = rehearsal::rehearse(&input[..n], &mut memory, &mut pages, &mut ports, &mut out);
+    let end = program::text_for(&input[..n], &mut memory, &mut pages, &mut ports, &mut out);
     io::write_all(STDOUT_FILENO, &out[..end]);
 }

@@ -11,7 +11,7 @@ use Rattle.reset.specs.Reset.{resetState, cycle, resetPages, resetMachine}
 use Rattle.image.specs.Image as image
 use Rattle.report.specs.Report.{digit, hex, leading, decimal, stepsLine, named, controlLine, registers, registersLine, reportOf, refusalOf}
 use Rattle.report.proofs.Rows.{exampleLines}
-use Rattle.rehearsal.specs.Printed.{unless, lengthNumber, loadNumber, started, ranText, printed}
+use Rattle.program.specs.Printed.{unless, lengthNumber, loadNumber, started, ranText, printed}
 
 -- one entry: the words 823F, 7900 from word 0 of memory on
 abbrev example : List ℕ

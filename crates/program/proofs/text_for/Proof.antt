@@ -1,15 +1,15 @@
--- `rehearsal::rehearse` meets its contract. Assumes nothing.
+-- `program::text_for` meets its contract. Assumes nothing.
 use mathlib.Core.Path.{_≡_, refl, sym, ap, _∙_}
 use native.Mathlib.Omega.{arith}
-use Rattle.rehearsal.proofs.PrintedLaws.{holds-own, holds-lists, too-long, too-long-left, refused, refused-left, accepted, accepted-left, number-is, machine-is, kept}
+use Rattle.program.proofs.PrintedLaws.{holds-own, holds-lists, too-long, too-long-left, refused, refused-left, accepted, accepted-left, number-is, machine-is, kept}
 use borrow.Author.Needs.{needs}
-use Rattle.rehearsal.proofs.rehearse.Statement.{statement}
-use Rattle.rehearsal.proofs.rehearse.Tie as tie
-use Rattle.rehearsal.proofs.rehearse.Reads as reads
-use Rattle.rehearsal.proofs.rehearse.Lts as lts
+use Rattle.program.proofs.text_for.Statement.{statement}
+use Rattle.program.proofs.text_for.Tie as tie
+use Rattle.program.proofs.text_for.Reads as reads
+use Rattle.program.proofs.text_for.Lts as lts
 use Rattle.image.proofs.questions.number.Reads as number-reads
 use Rattle.loader.proofs.load.Reads as load-reads
-use Rattle.rehearsal.proofs.run_and_report.Reads as run-and-report-reads
+use Rattle.program.proofs.run_and_report.Reads as run-and-report-reads
 use Rattle.report.proofs.refusal.Reads as refusal-reads
 use Rattle.reset.proofs.reset_state.Reads as reset-state-reads
 
@@ -43,8 +43,8 @@ run-and-report-requires c κs = search needs
 returns-3 : tie.Need-returns-3
 returns-3 c = (rw (accepted _ _ (c .before .before .before .before .before .before .before .before .before .before .before .before .before .if1 .left) (number-is _ _ (omega (arith, c .before .before .before .before .before .before .before .before .before .before .before .load-arg .given)) (omega (arith, c .before .before .before .before .before .before .before .before .before .before .load-arg2 .given)) (omega (arith, c .before .before .before .before .before .before .before .before .before .load-arg3 .given)) _ _ (c .before .before .before .before .before .before .before .number .ensures) (c .before .before .before .before .before .before .before .before .load .ensures .answer-is)) (c .before .before .before .before .before .before .if2 .left), ← machine-is _ _ (omega (arith, c .before .before .before .before .before .before .before .before .before .before .before .load-arg .given)) (omega (arith, c .before .before .before .before .before .before .before .before .before .before .load-arg2 .given)) (omega (arith, c .before .before .before .before .before .before .before .before .before .load-arg3 .given)) _ _ _ _ _ _ (c .before .before .before .before .before .before .before .number .ensures) (c .before .before .before .before .before .before .if2 .left) (c .before .before .before .before .before .before .before .before .load .ensures)) (c .run-and-report .ensures .0), λ s. rw (accepted-left _ _ _ (c .before .before .before .before .before .before .before .before .before .before .before .before .before .if1 .left) (number-is _ _ (omega (arith, c .before .before .before .before .before .before .before .before .before .before .before .load-arg .given)) (omega (arith, c .before .before .before .before .before .before .before .before .before .before .load-arg2 .given)) (omega (arith, c .before .before .before .before .before .before .before .before .before .load-arg3 .given)) _ _ (c .before .before .before .before .before .before .before .number .ensures) (c .before .before .before .before .before .before .before .before .load .ensures .answer-is)) (c .before .before .before .before .before .before .if2 .left), ← machine-is _ _ (omega (arith, c .before .before .before .before .before .before .before .before .before .before .before .load-arg .given)) (omega (arith, c .before .before .before .before .before .before .before .before .before .before .load-arg2 .given)) (omega (arith, c .before .before .before .before .before .before .before .before .before .load-arg3 .given)) _ _ _ _ _ _ (c .before .before .before .before .before .before .before .number .ensures) (c .before .before .before .before .before .before .if2 .left) (c .before .before .before .before .before .before .before .before .load .ensures)) (c .run-and-report .ensures .1))
 
-pub rehearse-spec : {M : Type 1} → statement M
-rehearse-spec =
+pub text-for-spec : {M : Type 1} → statement M
+text-for-spec =
     tie.close
     (tie.spec
     refusal-requires

@@ -12,7 +12,7 @@ use Rattle.machine.proofs.MachineLaws.{became-machine}
 use Rattle.image.specs.declared.Loading.{Loading}
 use Rattle.image.specs.Image as image
 use Rattle.report.specs.Report.{refusalOf}
-use Rattle.rehearsal.specs.Printed.{memorySize, pagesSize, portsSize, unless, lengthNumber, loadNumber, started, ranText, printed, afterwards, Holds}
+use Rattle.program.specs.Printed.{memorySize, pagesSize, portsSize, unless, lengthNumber, loadNumber, started, ranText, printed, afterwards, Holds}
 
 -- a machine holds its own lists, and what became of another
 pub holds-own : (x y : Machine) → y ≡ x → Holds y (x .memory) (x .pages) (x .ports)

@@ -1,13 +1,13 @@
--- `rehearsal::run_and_report` meets its contract. Assumes nothing.
+-- `program::run_and_report` meets its contract. Assumes nothing.
 use mathlib.Core.Path.{_≡_, refl, sym, ap, _∙_}
 use borrow.Author.Tests.{eq-eqb, ne-eqb}
-use Rattle.rehearsal.specs.Printed.{unless, ranText}
-use Rattle.rehearsal.proofs.PrintedLaws.{holds-became}
+use Rattle.program.specs.Printed.{unless, ranText}
+use Rattle.program.proofs.PrintedLaws.{holds-became}
 use borrow.Author.Needs.{needs}
-use Rattle.rehearsal.proofs.run_and_report.Statement.{statement}
-use Rattle.rehearsal.proofs.run_and_report.Tie as tie
-use Rattle.rehearsal.proofs.run_and_report.Reads as reads
-use Rattle.rehearsal.proofs.run_and_report.Lts as lts
+use Rattle.program.proofs.run_and_report.Statement.{statement}
+use Rattle.program.proofs.run_and_report.Tie as tie
+use Rattle.program.proofs.run_and_report.Reads as reads
+use Rattle.program.proofs.run_and_report.Lts as lts
 use Rattle.cpu.proofs.run.number.Reads as number-reads
 use Rattle.cpu.proofs.run.run.Reads as run-reads
 use Rattle.report.proofs.refusal.Reads as refusal-reads

@@ -4,7 +4,7 @@ ghost use Rattle.machine.specs.declared.State.{State};
 ghost use Rattle.machine.specs.Machine.{machine};
 ghost use Rattle.machine.specs.Runs.{left};
 ghost use Rattle.isa.specs.Mil1750.{mil1750};
-ghost use Rattle.rehearsal.specs.Printed.{printed, ranText, afterwards, Holds};
+ghost use Rattle.program.specs.Printed.{printed, ranText, afterwards, Holds};
 use machine::State;
 
 // A run of 1,000 steps, and its report.
@@ -29,7 +29,7 @@ fn run_and_report(
 }
 
 // The program's text for an input, on the memory, page registers and ports that it holds, whatever they contain; a refusal leaves them.
-pub fn rehearse(
+pub fn text_for(
     input: &[u8],
     memory: &mut [u16; 16384],
     pages: &mut [u16; 512],
