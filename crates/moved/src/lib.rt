@@ -3,7 +3,7 @@
 ghost use mathlib.Core.Path.{_≡_};
 ghost use mathlib.Core.Bool.{true, false};
 ghost use mathlib.Core.List.{List};
-ghost use Prim.Native.Nat.{ℕ, _/_};
+ghost use Prim.Native.Nat.{ℕ};
 ghost use Rattle.machine.specs.State.{joined};
 ghost use Rattle.machine.specs.Step.{faulted};
 ghost use Rattle.clock.specs.Later.{later};

@@ -1,7 +1,7 @@
 // The operations that are no user's, XIO, BEX and LST, from their accesses on (Scope, "One step", 2 and 3), on a core and the registers lent
 // beside it; key and group are those of its SW. Callers have 512 page registers and 1,024 ports: a run asks for them.
 ghost use mathlib.Core.Path.{_≡_};
-ghost use mathlib.Core.Bool.{true, cond};
+ghost use mathlib.Core.Bool.{cond};
 ghost use mathlib.Core.List.{List};
 ghost use Prim.Native.Nat.{ℕ, _+_, _/_, _<_, _%_};
 ghost use lib.ListN.{length};
