@@ -44,7 +44,7 @@ pub fn in_memory(mode: u16) -> bool
 }
 
 // Whether the operand of a mode is in the instruction.
-pub fn immediate(mode: u16) -> bool
+fn immediate(mode: u16) -> bool
     ensures { λ r. ⌜ r ≡ isImmediate mode ⌝ }
 {
     match mode {
@@ -57,7 +57,7 @@ pub fn immediate(mode: u16) -> bool
 }
 
 // Whether a mode has a base register.
-pub fn based(mode: u16) -> bool
+fn based(mode: u16) -> bool
     ensures { λ r. ⌜ r ≡ isBased mode ⌝ }
 {
     match mode {
@@ -96,7 +96,7 @@ pub fn double_operand(regs: &[u16; 16], n: Instruction, x: u16, y: u16) -> u32
 }
 
 // The accumulator of a mode with a base register.
-pub fn base_accumulator(operation: u16) -> u16
+fn base_accumulator(operation: u16) -> u16
     ensures { λ r. ⌜ (r ≡ baseAccumulator operation) × (r < 16) ⌝ }
 {
     match operation {

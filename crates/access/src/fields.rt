@@ -21,21 +21,21 @@ pub fn field_b(w: u16) -> u16
 }
 
 // The base register that bits 6 and 7 name.
-pub fn base_of(w: u16) -> u16
+pub(crate) fn base_of(w: u16) -> u16
     ensures { λ r. ⌜ r ≡ baseRegister w ⌝ }
 {
     12 + w / 256 % 4
 }
 
 // Bits 8 to 15, from 0 to 255.
-pub fn displacement_of(w: u16) -> u16
+pub(crate) fn displacement_of(w: u16) -> u16
     ensures { λ r. ⌜ r ≡ displacement w ⌝ }
 {
     w % 256
 }
 
 // The same from -128 to 127.
-pub fn signed_displacement(w: u16) -> u16
+pub(crate) fn signed_displacement(w: u16) -> u16
     ensures { λ r. ⌜ r ≡ signedDisplacement w ⌝ }
 {
     let d = w % 256;
@@ -68,7 +68,7 @@ pub fn registers_from(a: u16, b: u16) -> u16
 }
 
 // a plus register x, where x is not 0.
-pub fn index_by(regs: &[u16; 16], x: u16, a: u16) -> u16
+pub(crate) fn index_by(regs: &[u16; 16], x: u16, a: u16) -> u16
     ensures { λ r. ⌜ r ≡ indexed (now (regs .entry)) x a ⌝ }
 {
     if x == 0 {

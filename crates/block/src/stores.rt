@@ -35,7 +35,7 @@ pub fn pushed_word(regs: &[u16; 16], j: u16, i: u16) -> u16
 }
 
 // The words that PSHM stores go into a buffer (5.54). A buffer has sixteen words.
-pub fn push_words(regs: &[u16; 16], n: Instruction, buf: &mut [u16; 16])
+fn push_words(regs: &[u16; 16], n: Instruction, buf: &mut [u16; 16])
     requires { ⌜ length (now buf) ≡ 16 ⌝ }
     ensures { λ r. ⌜ ((j : ℕ) → j < registersFrom (fieldA (n .first)) (fieldB (n .first))
         → getD (now (buf .exit)) j 0 ≡ getD (pushedFrom (now (regs .entry)) (fieldB (n .first)) (registersFrom (fieldA (n .first)) (fieldB (n .first))) 0) j 0) ⌝ }
@@ -94,7 +94,7 @@ fn store_moved(
 }
 
 // The stores of any of the operations, from the words read, for whatever else it sees.
-pub fn store_words(
+pub(crate) fn store_words(
     key: u16,
     group: u16,
     regs: &[u16; 16],

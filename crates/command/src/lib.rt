@@ -8,7 +8,7 @@ use access::fields::get;
 use machine::Core;
 use machine::Instruction;
 
-pub mod xio;
+mod xio;
 
 // A privileged operation is done, and leaves this core; or its command is refused with an FT bit, and nothing is changed.
 pub enum Governed {

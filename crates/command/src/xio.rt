@@ -48,7 +48,13 @@ fn state_output(core: Core, ra: u16, command: u16) -> Governed
 }
 
 // All outputs: PO WIPR WOPR by their ranges, and between them those to the state.
-pub fn output(core: Core, pages: &mut [u16], ports: &mut [u16], ra: u16, command: u16) -> Governed
+pub(crate) fn output(
+    core: Core,
+    pages: &mut [u16],
+    ports: &mut [u16],
+    ra: u16,
+    command: u16,
+) -> Governed
     requires { ⌜ (length (now pages) ≡ 512) × (length (now ports) ≡ 1024) × (command < 0x8000) ⌝ }
     ensures { λ r. ⌜ ((regs : List ℕ) (n : Instruction)
         → governed r regs (now (pages .exit)) (now (ports .exit)) ≡ commanded (joined core regs) (now (pages .entry)) (now (ports .entry)) n ra command)
@@ -117,7 +123,7 @@ fn state_input(core: Core, regs: &mut [u16; 16], n: Instruction) -> Governed
 }
 
 // All inputs: PI RIPR ROPR by their ranges, and between them those from the state.
-pub fn input(
+pub(crate) fn input(
     core: Core,
     regs: &mut [u16; 16],
     pages: &[u16],

@@ -51,7 +51,7 @@ fn whole(memory: usize) -> bool
 }
 
 // The questions before a run, in their order.
-pub fn ask(memory: usize, pages: usize, ports: usize, count: u32, budget: u32) -> Answer
+fn ask(memory: usize, pages: usize, ports: usize, count: u32, budget: u32) -> Answer
     ensures { λ r. ⌜ r ≡ admission memory pages ports count budget ⌝ }
 {
     if !whole(memory) {

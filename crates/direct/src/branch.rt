@@ -29,7 +29,7 @@ fn is_taken(n: Instruction, cs: u16) -> bool
 }
 
 // The operation of the instruction n, whose way is 4, with any registers, memory and page registers.
-pub fn branch(core: Core, n: Instruction) -> Ending
+pub(crate) fn branch(core: Core, n: Instruction) -> Ending
     requires { ⌜ wayOf (operationOf (n .form)) ≡ 4 ⌝ }
     ensures { λ r. ⌜ ((regs memory pages : List ℕ) → Ended (joined core regs) memory pages n (r .clear) (r .fault) (joined (r .core) regs) memory) ⌝ }
 {

@@ -16,8 +16,8 @@ use accumulate::single::into_single;
 use machine::Core;
 use machine::Instruction;
 
-pub mod branch;
-pub mod store;
+mod branch;
+mod store;
 
 // The operation of the instruction n by its way, which is from 1 to 5.
 pub fn direct(

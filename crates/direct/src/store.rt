@@ -34,7 +34,7 @@ fn word_stored(regs: &[u16; 16], n: Instruction) -> u16
 }
 
 // The operation of the instruction n, whose way is 3.
-pub fn store_one(
+pub(crate) fn store_one(
     core: Core,
     key: u16,
     group: u16,
@@ -74,7 +74,7 @@ fn put_two(memory: &mut [u16], p: usize, q: usize, x: u16, y: u16)
 }
 
 // The operation of the instruction n, whose way is 5: both words or none.
-pub fn store_two(
+pub(crate) fn store_two(
     core: Core,
     key: u16,
     group: u16,

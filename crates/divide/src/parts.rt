@@ -10,13 +10,13 @@ ghost use Rattle.whole.specs.Whole.{Parts, withSign};
 ghost use Rattle.fixed.specs.Fixed.{single, double, result};
 
 // A whole number as a sign and a magnitude.
-pub struct Magnitude {
+pub(crate) struct Magnitude {
     pub neg: bool,
     pub size: u32,
 }
 
 // The sign and the magnitude of 16 bits.
-pub fn split16(a: u16) -> Magnitude
+pub(crate) fn split16(a: u16) -> Magnitude
     ensures { λ r. ⌜ Parts 16 a (r .neg) (r .size) ⌝ }
 {
     if a < 0x8000 {
@@ -32,7 +32,7 @@ pub fn split16(a: u16) -> Magnitude
 }
 
 // The sign and the magnitude of 32 bits.
-pub fn split32(a: u32) -> Magnitude
+pub(crate) fn split32(a: u32) -> Magnitude
     ensures { λ r. ⌜ Parts 32 a (r .neg) (r .size) ⌝ }
 {
     if a < 0x8000_0000 {
@@ -48,7 +48,7 @@ pub fn split32(a: u32) -> Magnitude
 }
 
 // The 16-bit result of a sign and a magnitude.
-pub fn join16(neg: bool, size: u32) -> Single
+pub(crate) fn join16(neg: bool, size: u32) -> Single
     ensures { λ r. ⌜ r ≡ single (result 16 false (withSign neg size)) ⌝ }
 {
     if neg {
@@ -58,7 +58,7 @@ pub fn join16(neg: bool, size: u32) -> Single
 }
 
 // The 32-bit result of a sign and a magnitude. A product of two magnitudes is at most 2^62.
-pub fn join32(neg: bool, size: u64) -> Double
+pub(crate) fn join32(neg: bool, size: u64) -> Double
     requires { ⌜ size < 0x8000_0000_0000_0000 ⌝ }
     ensures { λ r. ⌜ r ≡ double (result 32 false (withSign neg size)) ⌝ }
 {

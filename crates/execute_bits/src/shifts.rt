@@ -40,7 +40,7 @@ use word::status::status16;
 use word::status::status32;
 
 // The double word of register k and the next; k is a field of four bits.
-pub fn register_pair(regs: &[u16; 16], k: u16) -> u32
+fn register_pair(regs: &[u16; 16], k: u16) -> u32
     requires { ⌜ k < 16 ⌝ }
     ensures { λ r. ⌜ r ≡ registerPair (now (regs .entry)) k ⌝ }
 {

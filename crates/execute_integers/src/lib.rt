@@ -38,7 +38,7 @@ use word::compare::compare_limits;
 use word::compare::compare16;
 use word::compare::compare32;
 
-pub mod outcomes;
+mod outcomes;
 
 // 5.55 to 5.59, 5.63 to 5.67, 5.71 to 5.73, 5.76 to 5.78: A INCM ABS DABS DA, S DECM NEG DNEG DS, MS M DM, DV D DD.
 // x and y are the words read, k the accumulator's number.

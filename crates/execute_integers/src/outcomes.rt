@@ -28,7 +28,7 @@ use word::pair::join;
 use word::pair::low;
 
 // The double word of register k and the next. k is a register's number.
-pub fn pair_at(regs: &[u16; 16], k: u16) -> u32
+pub(crate) fn pair_at(regs: &[u16; 16], k: u16) -> u32
     requires { ⌜ k < 16 ⌝ }
     ensures { λ r. ⌜ r ≡ registerPair (now (regs .entry)) k ⌝ }
 {
@@ -36,14 +36,14 @@ pub fn pair_at(regs: &[u16; 16], k: u16) -> u32
 }
 
 // Register k gets an outcome of 16 bits.
-pub fn single_outcome(ic: u16, pi: u16, n: Instruction, k: u16, s: Single) -> Work
+pub(crate) fn single_outcome(ic: u16, pi: u16, n: Instruction, k: u16, s: Single) -> Work
     ensures { λ r. ⌜ ((regs : List ℕ) (sw : ℕ) (o : Outcome) → s ≡ single o → worked regs r ≡ singleOutcome (context regs ic sw pi) n k o) ⌝ }
 {
     result1(ic, pi, n, k, s.value, s.cs, fixed_overflow(s.overflow))
 }
 
 // Registers k and k + 1 get one of 32 bits.
-pub fn double_outcome(ic: u16, pi: u16, n: Instruction, k: u16, d: Double) -> Work
+pub(crate) fn double_outcome(ic: u16, pi: u16, n: Instruction, k: u16, d: Double) -> Work
     ensures { λ r. ⌜ ((regs : List ℕ) (sw : ℕ) (o : Outcome) → d ≡ double o → worked regs r ≡ doubleOutcome (context regs ic sw pi) n k o) ⌝ }
 {
     let bits = fixed_overflow(d.overflow);
@@ -53,14 +53,14 @@ pub fn double_outcome(ic: u16, pi: u16, n: Instruction, k: u16, d: Double) -> Wo
 }
 
 // The memory word gets one of 16 bits.
-pub fn memory_outcome(ic: u16, pi: u16, n: Instruction, s: Single) -> Work
+pub(crate) fn memory_outcome(ic: u16, pi: u16, n: Instruction, s: Single) -> Work
     ensures { λ r. ⌜ ((regs : List ℕ) (sw : ℕ) (o : Outcome) → s ≡ single o → worked regs r ≡ memoryOutcome (context regs ic sw pi) n o) ⌝ }
 {
     modified(ic, pi, n, s.value, s.cs, fixed_overflow(s.overflow))
 }
 
 // Registers k and k + 1 get a quotient and its remainder.
-pub fn quotient_outcome(ic: u16, pi: u16, n: Instruction, k: u16, q: Quotient) -> Work
+pub(crate) fn quotient_outcome(ic: u16, pi: u16, n: Instruction, k: u16, q: Quotient) -> Work
     ensures { λ r. ⌜ ((regs : List ℕ) (sw : ℕ) → worked regs r ≡ quotientOutcome (context regs ic sw pi) n k q) ⌝ }
 {
     let bits = fixed_overflow(q.overflow);
@@ -68,7 +68,14 @@ pub fn quotient_outcome(ic: u16, pi: u16, n: Instruction, k: u16, q: Quotient) -
 }
 
 // Sum, difference, product or quotient of a register pair and the double operand, by its paragraph. a is a register's number.
-pub fn combine32(operation: u16, regs: &[u16; 16], a: u16, n: Instruction, x: u16, y: u16) -> Double
+pub(crate) fn combine32(
+    operation: u16,
+    regs: &[u16; 16],
+    a: u16,
+    n: Instruction,
+    x: u16,
+    y: u16,
+) -> Double
     requires { ⌜ a < 16 ⌝ }
     ensures { λ r. ⌜ r ≡ double (arithmetic operation (registerPair (now (regs .entry)) a) (doubleOperand (now (regs .entry)) n x y)) ⌝ }
 {

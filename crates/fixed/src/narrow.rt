@@ -12,14 +12,14 @@ ghost use Rattle.word.specs.Status.{withCarry};
 ghost use Rattle.fixed.specs.Fixed.{single, double, result};
 
 // The number that 16 bits stand for, plus 2^15.
-pub fn excess16(a: u16) -> u64
+pub(crate) fn excess16(a: u16) -> u64
     ensures { λ r. ⌜ r ≡ (a + 0x8000) % 0x1_0000 ⌝ }
 {
     (a as u64 + 0x8000) % 0x1_0000
 }
 
 // The number that 32 bits stand for, plus 2^31.
-pub fn excess32(a: u32) -> u64
+pub(crate) fn excess32(a: u32) -> u64
     ensures { λ r. ⌜ r ≡ (a + 0x8000_0000) % 0x1_0000_0000 ⌝ }
 {
     (a as u64 + 0x8000_0000) % 0x1_0000_0000

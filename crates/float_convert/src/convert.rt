@@ -16,7 +16,7 @@ pub struct Fixed {
 }
 
 // A mantissa divided by 2^n, truncated toward zero, at any width from 2 to 62: the shift rounds down, which is one too low where bits are lost below zero.
-pub fn truncate(w: u32, m: u64, n: u32) -> u64
+fn truncate(w: u32, m: u64, n: u32) -> u64
     requires { ⌜ (2 ≤ w) × (w ≤ 62) × (m < 2 ^ w) ⌝ }
     ensures { λ r. ⌜ r ≡ wrap w (quotZ (signed w m) (pos (2 ^ n))) ⌝ }
 {
@@ -32,7 +32,7 @@ pub fn truncate(w: u32, m: u64, n: u32) -> u64
 }
 
 // The integer portion as n bits, at most 32, of a mantissa of n + 8 bits; an exponent above n - 1 overflows and keeps what was there before.
-pub fn fix(n: u32, m: u64, e: u32, before: u32) -> Fixed
+fn fix(n: u32, m: u64, e: u32, before: u32) -> Fixed
     requires { ⌜ (2 ≤ n) × (n ≤ 32) × (m < 2 ^ (8 + n)) × (before < 2 ^ n) ⌝ }
     ensures { λ r. ⌜ (r .value ≡ fixedOf n (8 + n) (signed (8 + n) m) e before) × (r .overflow ≡ tooLarge n e) × (r .value < 2 ^ n) ⌝ }
 {

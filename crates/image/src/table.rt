@@ -23,7 +23,7 @@ pub fn word_at(image: &[u8], i: usize) -> u16
 }
 
 // The number of four bytes from byte i on.
-pub fn long_at(image: &[u8], i: usize) -> u32
+fn long_at(image: &[u8], i: usize) -> u32
     requires { ⌜ i + 4 ≤ length (now image) ⌝ }
     ensures { λ r. ⌜ r ≡ longAt (now (image .entry)) i ⌝ }
 {
@@ -51,14 +51,14 @@ pub fn entry_at(image: &[u8], k: usize) -> Entry
 }
 
 // The word after those that an entry fills.
-pub fn end(e: Entry) -> u64
+pub(crate) fn end(e: Entry) -> u64
     ensures { λ r. ⌜ r ≡ endOf e ⌝ }
 {
     e.start as u64 + e.length as u64
 }
 
 // The words of the first n bodies. No caller has more than 64, whose lengths of 32 bits do not wrap.
-pub fn words_before(image: &[u8], n: usize) -> usize
+pub(crate) fn words_before(image: &[u8], n: usize) -> usize
     requires { ⌜ (2 + 10 * n ≤ length (now image)) × (n ≤ 64) ⌝ }
     ensures { λ r. ⌜ (r ≡ wordsBefore (now (image .entry)) n) × (r ≤ 4294967296 * n) ⌝ }
 {

@@ -1,7 +1,7 @@
 // What each operation needs, by its paragraph of section 5: the words that it reads at its derived address, plus 4 times those that it writes
 // there, plus 0x10 for URS, 0x20 for SJS and 0x40 for the operations on blocks, plus 0x80 times the way of one that is carried out directly or is
 // no user's.
-pub const NEEDS: [u16; 256] = [
+pub(crate) const NEEDS: [u16; 256] = [
     0x000, // 0
     0x300, // 1 XIO
     0x000, // 2

@@ -11,7 +11,7 @@ use page::lookup::look_up;
 
 // Where count words from the logical address a on lie, if all are of one page and inside the memory. Callers have 512 page registers and
 // a group of four bits, and ask for sixteen at most.
-pub fn find_row(
+pub(crate) fn find_row(
     access: Access,
     key: u16,
     group: u16,
@@ -37,7 +37,7 @@ pub fn find_row(
 }
 
 // STM: the first count registers go to the words from p on.
-pub fn store_row(regs: &[u16; 16], memory: &mut [u16], p: usize, count: u16)
+pub(crate) fn store_row(regs: &[u16; 16], memory: &mut [u16], p: usize, count: u16)
     requires { ⌜ (count ≤ 16) × (p + count ≤ length (now memory)) ⌝ }
     ensures { λ r. ⌜ now (memory .exit) ≡ storedAt (upwards p) (now (regs .entry)) count 0 (now (memory .entry)) ⌝ }
 {
@@ -52,7 +52,7 @@ pub fn store_row(regs: &[u16; 16], memory: &mut [u16], p: usize, count: u16)
 }
 
 // PSHM: count registers from b downwards go to the words from p downwards.
-pub fn push_row(regs: &[u16; 16], memory: &mut [u16], p: usize, b: u16, count: u16)
+pub(crate) fn push_row(regs: &[u16; 16], memory: &mut [u16], p: usize, b: u16, count: u16)
     requires { ⌜ (b < 16) × (count ≤ 16) × (count ≤ p + 1) × (p < length (now memory)) ⌝ }
     ensures { λ r. ⌜ now (memory .exit) ≡ storedAt (downwards p) (pushedFrom (now (regs .entry)) b count 0) count 0 (now (memory .entry)) ⌝ }
 {

@@ -27,7 +27,7 @@ use status_word::with_cs;
 
 // What an operation does, by ranges of paragraphs; x, y and z are the words read. Bits, shifts, loads and stores have two ranges each: a function
 // that is called twice stays one of its own, and the step without them is small enough to be put inline as a whole.
-pub fn ordinary(
+fn ordinary(
     regs: &[u16; 16],
     ic: u16,
     sw: u16,

@@ -26,7 +26,7 @@ use status_word::advance;
 use storage::read::read_word;
 
 // Who may run an operation: BEX (5.30) calls the executive, XIO (5.1) and LST (5.35) are privileged.
-pub fn class_of(operation: u16) -> Class
+fn class_of(operation: u16) -> Class
     ensures { λ r. ⌜ r ≡ classOf operation ⌝ }
 {
     // most operations come after these

@@ -17,7 +17,7 @@ use std::num::wrapping_add_u16;
 use word::status::status16;
 
 // LM: R0 to RN get the words from word number p on (5.40), which there are.
-pub fn load_all(regs: &mut [u16; 16], n: Instruction, words: &[u16], p: usize)
+pub(crate) fn load_all(regs: &mut [u16; 16], n: Instruction, words: &[u16], p: usize)
     requires { ⌜ p + (fieldA (n .first) + 1) ≤ length (now words) ⌝ }
     ensures { λ r. ⌜ now (regs .exit) ≡ withRegisters (now (regs .entry)) 0 (take (fieldA (n .first) + 1) (drop p (now (words .entry)))) ⌝ }
 {
@@ -32,7 +32,7 @@ pub fn load_all(regs: &mut [u16; 16], n: Instruction, words: &[u16], p: usize)
 }
 
 // POPM: k words from word number p on, which there are, go to the registers from a on, but none to R15 (5.44). a is a field of four bits, k at most 16.
-pub fn pop_words(regs: &mut [u16; 16], a: u16, k: u16, words: &[u16], p: usize)
+fn pop_words(regs: &mut [u16; 16], a: u16, k: u16, words: &[u16], p: usize)
     requires { ⌜ (a < 16) × (k < 17) × (p + k ≤ length (now words)) ⌝ }
     ensures { λ r. ⌜ now (regs .exit) ≡ poppedFrom a (drop p (now (words .entry))) k 0 (now (regs .entry)) ⌝ }
 {
@@ -50,7 +50,7 @@ pub fn pop_words(regs: &mut [u16; 16], a: u16, k: u16, words: &[u16], p: usize)
 }
 
 // POPM: the registers get the words from word number p on, which there are, and R15 rises by their number (5.44).
-pub fn pop_all(regs: &mut [u16; 16], n: Instruction, words: &[u16], p: usize)
+pub(crate) fn pop_all(regs: &mut [u16; 16], n: Instruction, words: &[u16], p: usize)
     requires { ⌜ p + registersFrom (fieldA (n .first)) (fieldB (n .first)) ≤ length (now words) ⌝ }
     ensures { λ r. ⌜ now (regs .exit) ≡ withRegister
         (poppedFrom (fieldA (n .first)) (drop p (now (words .entry))) (registersFrom (fieldA (n .first)) (fieldB (n .first))) 0 (now (regs .entry))) 15
@@ -64,7 +64,7 @@ pub fn pop_all(regs: &mut [u16; 16], n: Instruction, words: &[u16], p: usize)
 }
 
 // PSHM: R15 falls by the number of registers pushed (5.54).
-pub fn push_stack(regs: &mut [u16; 16], n: Instruction)
+pub(crate) fn push_stack(regs: &mut [u16; 16], n: Instruction)
     ensures { λ r. ⌜ now (regs .exit) ≡ withRegister (now (regs .entry)) 15
         (wrapped (register (now (regs .entry)) 15 + (65536 - registersFrom (fieldA (n .first)) (fieldB (n .first))))) ⌝ }
 {
@@ -73,14 +73,14 @@ pub fn push_stack(regs: &mut [u16; 16], n: Instruction)
 }
 
 // Register k changes by d.
-pub fn change(regs: &mut [u16; 16], k: u16, d: u16)
+fn change(regs: &mut [u16; 16], k: u16, d: u16)
     ensures { λ r. ⌜ now (regs .exit) ≡ changedBy k d (now (regs .entry)) ⌝ }
 {
     put(regs, k, wrapping_add_u16(get(regs, k), d));
 }
 
 // MOV: RA and RB rise, and the count in the register after RA falls (5.47). a is a field of four bits.
-pub fn move_on(regs: &mut [u16; 16], a: u16, b: u16)
+pub(crate) fn move_on(regs: &mut [u16; 16], a: u16, b: u16)
     requires { ⌜ a < 16 ⌝ }
     ensures { λ r. ⌜ now (regs .exit) ≡ movedOn (now (regs .entry)) a b ⌝ }
 {
@@ -90,7 +90,7 @@ pub fn move_on(regs: &mut [u16; 16], a: u16, b: u16)
 }
 
 // XWR: RA and RB exchange their contents; the status of RA's new one (5.90).
-pub fn exchange(regs: &mut [u16; 16], n: Instruction) -> u16
+pub(crate) fn exchange(regs: &mut [u16; 16], n: Instruction) -> u16
     ensures { λ r. ⌜ (r ≡ status 16 (register (now (regs .entry)) (fieldB (n .first))))
         × (now (regs .exit) ≡ withRegister (withRegister (now (regs .entry)) (fieldA (n .first)) (register (now (regs .entry)) (fieldB (n .first))))
         (fieldB (n .first)) (register (now (regs .entry)) (fieldA (n .first)))) ⌝ }

@@ -34,7 +34,7 @@ pub fn put_bytes(out: &mut [u8; 256], at: usize, bytes: &[u8]) -> usize
 }
 
 // A digit to the base sixteen.
-pub fn digit(n: u16) -> u8
+pub(crate) fn digit(n: u16) -> u8
     requires { ⌜ n < 16 ⌝ }
     ensures { λ r. ⌜ r ≡ digit n ⌝ }
 {

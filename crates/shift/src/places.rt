@@ -41,7 +41,7 @@ pub fn cyclic16(a: u16, n: u16) -> u16
 }
 
 // Whether the sign changes at any position of a left shift (5.19).
-pub fn sign_changes16(a: u16, n: u16) -> bool
+pub(crate) fn sign_changes16(a: u16, n: u16) -> bool
     requires { ⌜ n ≤ 16 ⌝ }
     ensures { λ r. ⌜ r ≡ signChanges 16 n a ⌝ }
 {
@@ -89,7 +89,7 @@ pub fn cyclic32(a: u32, n: u16) -> u32
 }
 
 // Whether the sign changes at any position of a left shift (5.22).
-pub fn sign_changes32(a: u32, n: u16) -> bool
+pub(crate) fn sign_changes32(a: u32, n: u16) -> bool
     requires { ⌜ n ≤ 32 ⌝ }
     ensures { λ r. ⌜ r ≡ signChanges 32 n a ⌝ }
 {

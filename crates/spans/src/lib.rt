@@ -33,7 +33,7 @@ pub fn all_from(n: Instruction) -> Span
 }
 
 // The words that POPM reads.
-pub fn popped_span(regs: &[u16; 16], n: Instruction) -> Span
+fn popped_span(regs: &[u16; 16], n: Instruction) -> Span
     ensures { λ r. ⌜ (r ≡ poppedSpan (now (regs .entry)) n) × (r .count ≤ 16) ⌝ }
 {
     let a = field_a(n.first);

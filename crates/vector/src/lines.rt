@@ -5,7 +5,7 @@ ghost use Rattle.vector.specs.Lines.{digitOf, wordOf, sizeOf, limitOf, l
 use crate::Line;
 
 // The value of a hexadecimal digit, letters capital; 16 for any other byte.
-pub fn digit(byte: u8) -> u32
+fn digit(byte: u8) -> u32
     ensures { λ r. ⌜ (r ≡ digitOf byte) × (r ≤ 16) ⌝ }
 {
     if byte < 48 {
@@ -24,7 +24,7 @@ pub fn digit(byte: u8) -> u32
 }
 
 // The word of four hexadecimal digits; 65,536 where one of them is none.
-pub fn word(a: u8, b: u8, c: u8, d: u8) -> u32
+pub(crate) fn word(a: u8, b: u8, c: u8, d: u8) -> u32
     ensures { λ r. ⌜ (r ≡ wordOf a b c d) × (r ≤ 65536) ⌝ }
 {
     let first = digit(a);
@@ -47,7 +47,7 @@ pub fn word(a: u8, b: u8, c: u8, d: u8) -> u32
 }
 
 // How many numbers a kind has; 0 for a byte that is no kind.
-pub fn size(kind: u8) -> u32
+fn size(kind: u8) -> u32
     ensures { λ r. ⌜ (r ≡ sizeOf kind) × (r ≤ 65536) ⌝ }
 {
     match kind {
@@ -62,7 +62,7 @@ pub fn size(kind: u8) -> u32
 }
 
 // The largest word of an entry: a length is at most the words that there are.
-pub fn limit(kind: u8, number: u32) -> u32
+fn limit(kind: u8, number: u32) -> u32
     ensures { λ r. ⌜ (r ≡ limitOf kind number) × (r ≤ 65535) ⌝ }
 {
     if kind != b'L' {
