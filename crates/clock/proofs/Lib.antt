@@ -1,2 +1,3 @@
 -- The laws of several ticks at once.
 pub mod LaterLaws
+pub mod Wrong

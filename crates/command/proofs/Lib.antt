@@ -1,2 +1,3 @@
 -- The laws of commands.
 pub mod CommandLaws
+pub mod Wrong

@@ -5,3 +5,4 @@ pub mod QuotientLaws
 pub mod ProductLines
 pub mod QuotientLines
 pub mod DivideRows
+pub mod Wrong

@@ -1,2 +1,3 @@
 -- The laws of integer operations.
 pub mod OutcomeLaws
+pub mod Wrong

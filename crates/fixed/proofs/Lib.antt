@@ -3,3 +3,4 @@ pub mod NarrowLaws
 pub mod SumLaws
 pub mod SumLines
 pub mod FixedRows
+pub mod Wrong

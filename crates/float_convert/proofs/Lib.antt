@@ -3,3 +3,4 @@ pub mod SignLaws
 pub mod CompareLaws
 pub mod ConvertLaws
 pub mod Rows
+pub mod Wrong

@@ -1,2 +1,3 @@
 -- The laws of floating point operations.
 pub mod FloatEffects
+pub mod Wrong

@@ -1,2 +1,3 @@
 -- The laws of the words read and stored.
 pub mod GatherLaws
+pub mod Wrong

@@ -2,3 +2,4 @@
 pub mod QuestionLaws
 pub mod SoundLaws
 pub mod ShareLaws
+pub mod Wrong

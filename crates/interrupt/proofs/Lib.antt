@@ -1,2 +1,3 @@
 -- The laws of the words that an entry reads.
 pub mod VectorLaws
+pub mod Wrong

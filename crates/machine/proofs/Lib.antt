@@ -7,4 +7,5 @@ pub mod RunLaws
 pub mod StepLaws
 pub mod Isolation
 pub mod Opened
+pub mod Samples
 pub mod Rows

@@ -1,2 +1,3 @@
 -- The laws of what an operation needs.
 pub mod NeedsLaws
+pub mod Wrong

@@ -1,2 +1,3 @@
 -- The laws of the choice of an operation.
 pub mod OrdinaryLaws
+pub mod Wrong

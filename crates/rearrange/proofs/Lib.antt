@@ -1,2 +1,3 @@
 -- The laws of the operations on blocks.
 pub mod BlockLaws
+pub mod Wrong

@@ -3,3 +3,4 @@ pub mod ShiftLaws
 pub mod SignLaws
 pub mod CountLaws
 pub mod Rows
+pub mod Wrong

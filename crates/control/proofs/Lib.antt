@@ -1,0 +1,2 @@
+-- The rows of wrong answers.
+pub mod Wrong

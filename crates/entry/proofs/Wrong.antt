@@ -1,0 +1,49 @@
+-- Two wrong answers of each contract that other crates call, beside the right one, which the checker computes. Assumes nothing.
+use Prim.Native.Nat.{ℕ}
+use mathlib.Core.Bool.{true}
+use mathlib.Core.List.{List, [], _∷_}
+use lib.Bits.{bitOr}
+use lib.Dec.{T}
+use lib.ListN.{replicate}
+use Rattle.choice.proofs.Rows.{Row, some, hold, flag}
+use Rattle.machine.specs.declared.State.{State}
+use Rattle.machine.specs.declared.Vector.{Vector}
+use Rattle.machine.specs.Entries.{linked, linkStored, refusalOf, arrived}
+use Rattle.machine.proofs.Opened.{machinery}
+use Rattle.machine.proofs.Samples.{stateAt}
+use Rattle.machine.specs.State.{withMk, withPi, withEnabled}
+
+-- interrupts 5 and 15 are pending
+abbrev s : State
+s = withEnabled (withPi (withMk (stateAt (replicate 16 0) 3 2) 1) 0x0401) true
+
+-- the linkage pointer is 4
+abbrev v : Vector
+v = record { link = 4; mk = 7; sw = 8; ic = 9; fault = 0 }
+
+-- every page register is 0
+abbrev g : List ℕ
+g = replicate 512 0
+
+-- six words, so that the third of the old words lies outside
+abbrev memory : List ℕ
+memory = replicate 6 0
+
+-- IC, SW, MK, PI, FT and interrupts enabled
+abbrev shown : State → List ℕ
+shown t = t .ic ∷ t .sw ∷ t .mk ∷ t .pi ∷ t .ft ∷ flag (t .enabled) ∷ []
+
+pub rows : List Row
+unfolding machinery
+rows =
+    -- link: two of the three words stored before the refusal; the refusal not told
+    some (refusalOf (linked memory g v) ∷ linkStored s memory g v (linked memory g v))
+    (0x0080 ∷ 0 ∷ 0 ∷ 0 ∷ 0 ∷ 0 ∷ 0 ∷ []) (0x0080 ∷ 0 ∷ 0 ∷ 0 ∷ 0 ∷ 1 ∷ 2 ∷ []) (0 ∷ 0 ∷ 0 ∷ 0 ∷ 0 ∷ 0 ∷ 0 ∷ [])
+    -- arrive: the PI bit of the interrupt kept; interrupts left enabled
+    ∷ some (shown (arrived s 5 v (bitOr (v .fault) 0x0080)))
+    (9 ∷ 8 ∷ 7 ∷ 0x4001 ∷ 0x0080 ∷ 0 ∷ []) (9 ∷ 8 ∷ 7 ∷ 0x4401 ∷ 0x0080 ∷ 0 ∷ []) (9 ∷ 8 ∷ 7 ∷ 0x4001 ∷ 0x0080 ∷ 1 ∷ [])
+    ∷ []
+
+pub rows-hold : T (hold rows)
+unfolding rows machinery
+rows-hold = tt

@@ -1,0 +1,80 @@
+-- Two wrong answers of each contract that other crates call, beside the right one, which the checker computes. Assumes nothing.
+use Prim.Native.Nat.{ℕ, min}
+use mathlib.Core.Bool.{true, false}
+use mathlib.Core.List.{List, [], _∷_}
+use lib.Dec.{T}
+use lib.ListN.{set, replicate}
+use Rattle.choice.proofs.Rows.{Row, one, some, hold}
+use Rattle.machine.specs.declared.State.{State}
+use Rattle.machine.proofs.Opened.{machinery}
+use Rattle.machine.proofs.Samples.{stateAt}
+use Rattle.machine.specs.State.{withMk, withPi, withFt, withEnabled, withTa, withTb, withTbOn, withCount}
+use Rattle.report.specs.Report.{digit, hex, leading, decimal}
+use Rattle.packed.specs.Packed.{marked, markAt, marksOf, unpacked, others, packed}
+use Rattle.vector.specs.declared.Line.{Line}
+use Rattle.vector.specs.declared.Line.the-variants.{Remark, Entry, Malformed}
+use Rattle.vector.specs.Changes.{firstChanged, nextChanged}
+use Rattle.vector.specs.Lines.{digitOf, given, wordOf, sizeOf, limitOf, entryOf, lineOf}
+use Rattle.vector.specs.Fields.{withWord}
+use Rattle.vector.specs.Texts.{caseLine, timeLine, entryLine, numberedLine}
+
+abbrev s : State
+s = withCount (withTbOn (withTb (withTa (withEnabled (withFt (withPi (withMk (stateAt (replicate 16 0) 1 2) 3) 4) 5) true) 10) 20) false) 12
+
+-- opens the definitions of changes and lines at once, and those of the state and of texts
+unfoldable lines : Unit {0}
+unfolding firstChanged nextChanged digitOf given wordOf sizeOf limitOf entryOf lineOf
+lines = tt
+
+unfoldable texts : Unit {0}
+unfolding withWord marked markAt marksOf unpacked others packed digit hex leading decimal caseLine timeLine entryLine numberedLine
+texts = tt
+
+-- an entry's kind, number and word; 1 for a remark, 2 for neither
+abbrev parts : Line → List ℕ
+parts Remark = 1 ∷ []
+parts (Entry k n w) = k ∷ n ∷ w ∷ []
+parts Malformed = 2 ∷ []
+
+pub rows : List Row
+unfolding machinery lines texts
+rows =
+    -- compare::next: searched from the first word on; the changed word passed over
+    one (nextChanged (1 ∷ 2 ∷ 3 ∷ 4 ∷ []) (1 ∷ 9 ∷ 3 ∷ 9 ∷ []) 2) 3 1 4
+    -- compare::least: the larger; one less
+    ∷ one (min 9 5) 5 9 4
+    -- lines::read: number and word exchanged; the letters A to F as 11 to 16
+    ∷ some (parts (lineOf (77 ∷ 32 ∷ 48 ∷ 48 ∷ 49 ∷ 50 ∷ 32 ∷ 48 ∷ 48 ∷ 65 ∷ 66 ∷ 10 ∷ []) 11))
+    (77 ∷ 0x0012 ∷ 0x00AB ∷ []) (77 ∷ 0x00AB ∷ 0x0012 ∷ []) (77 ∷ 0x0012 ∷ 0x00BC ∷ [])
+    -- set::put: the word before; the word after
+    ∷ some (set (5 ∷ 6 ∷ 7 ∷ []) 1 9) (5 ∷ 9 ∷ 7 ∷ []) (9 ∷ 6 ∷ 7 ∷ []) (5 ∷ 6 ∷ 9 ∷ [])
+    -- set::state: PI set by the number of MK; SW set by the number of MK
+    ∷ some (let t = withWord s 18 9 in t .sw ∷ t .mk ∷ t .pi ∷ []) (2 ∷ 9 ∷ 4 ∷ []) (2 ∷ 3 ∷ 9 ∷ []) (9 ∷ 3 ∷ 4 ∷ [])
+    -- text::case_line: number and answer exchanged; the newline left out
+    ∷ some (caseLine 7 5)
+    (99 ∷ 97 ∷ 115 ∷ 101 ∷ 32 ∷ 55 ∷ 32 ∷ 97 ∷ 110 ∷ 115 ∷ 119 ∷ 101 ∷ 114 ∷ 32 ∷ 53 ∷ 10 ∷ [])
+    (99 ∷ 97 ∷ 115 ∷ 101 ∷ 32 ∷ 53 ∷ 32 ∷ 97 ∷ 110 ∷ 115 ∷ 119 ∷ 101 ∷ 114 ∷ 32 ∷ 55 ∷ 10 ∷ [])
+    (99 ∷ 97 ∷ 115 ∷ 101 ∷ 32 ∷ 55 ∷ 32 ∷ 97 ∷ 110 ∷ 115 ∷ 119 ∷ 101 ∷ 114 ∷ 32 ∷ 53 ∷ [])
+    -- text::time_line: the timers exchanged; the counter in hexadecimal
+    ∷ some (timeLine s)
+    (116 ∷ 97 ∷ 32 ∷ 48 ∷ 48 ∷ 48 ∷ 65 ∷ 32 ∷ 116 ∷ 98 ∷ 32 ∷ 48 ∷ 48 ∷ 49 ∷ 52 ∷ 32 ∷ 109 ∷ 97 ∷ 114 ∷ 107 ∷ 115 ∷ 32 ∷ 48 ∷ 48 ∷
+    48 ∷ 53 ∷ 32 ∷ 99 ∷ 111 ∷ 117 ∷ 110 ∷ 116 ∷ 32 ∷ 49 ∷ 50 ∷ 10 ∷ [])
+    (116 ∷ 97 ∷ 32 ∷ 48 ∷ 48 ∷ 49 ∷ 52 ∷ 32 ∷ 116 ∷ 98 ∷ 32 ∷ 48 ∷ 48 ∷ 48 ∷ 65 ∷ 32 ∷ 109 ∷ 97 ∷ 114 ∷ 107 ∷ 115 ∷ 32 ∷ 48 ∷ 48 ∷
+    48 ∷ 53 ∷ 32 ∷ 99 ∷ 111 ∷ 117 ∷ 110 ∷ 116 ∷ 32 ∷ 49 ∷ 50 ∷ 10 ∷ [])
+    (116 ∷ 97 ∷ 32 ∷ 48 ∷ 48 ∷ 48 ∷ 65 ∷ 32 ∷ 116 ∷ 98 ∷ 32 ∷ 48 ∷ 48 ∷ 49 ∷ 52 ∷ 32 ∷ 109 ∷ 97 ∷ 114 ∷ 107 ∷ 115 ∷ 32 ∷ 48 ∷ 48 ∷
+    48 ∷ 53 ∷ 32 ∷ 99 ∷ 111 ∷ 117 ∷ 110 ∷ 116 ∷ 32 ∷ 67 ∷ 10 ∷ [])
+    -- text::entry_line: number and word exchanged; the kind without a blank after it
+    ∷ some (entryLine 77 0x0012 0x00AB)
+    (77 ∷ 32 ∷ 48 ∷ 48 ∷ 49 ∷ 50 ∷ 32 ∷ 48 ∷ 48 ∷ 65 ∷ 66 ∷ 10 ∷ [])
+    (77 ∷ 32 ∷ 48 ∷ 48 ∷ 65 ∷ 66 ∷ 32 ∷ 48 ∷ 48 ∷ 49 ∷ 50 ∷ 10 ∷ [])
+    (77 ∷ 48 ∷ 48 ∷ 49 ∷ 50 ∷ 32 ∷ 48 ∷ 48 ∷ 65 ∷ 66 ∷ 10 ∷ [])
+    -- text::numbered_line: a blank before the number; the newline left out
+    ∷ some (numberedLine (110 ∷ 111 ∷ 32 ∷ []) 12)
+    (110 ∷ 111 ∷ 32 ∷ 49 ∷ 50 ∷ 10 ∷ [])
+    (110 ∷ 111 ∷ 32 ∷ 32 ∷ 49 ∷ 50 ∷ 10 ∷ [])
+    (110 ∷ 111 ∷ 32 ∷ 49 ∷ 50 ∷ [])
+    ∷ []
+
+pub rows-hold : T (hold rows)
+unfolding rows machinery lines texts
+rows-hold = tt
