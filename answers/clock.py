@@ -8,13 +8,13 @@ CALM = ('record { a-inside = λ e. omega (arith, @room .ensures .2 e, @room2 .en
 QUIET = '(rw (← @room .ensures .0, ← @room2 .ensures .0, %s) refl, omega (arith, @room .ensures .1, @room2 .ensures .1), ' + CALM + ')'
 
 A = {
-    'time/release': by(STEP + ' released', STATE + ' withHold', lean=True, returns='λ regs. refl'),
-    'time/fault': by(STEP + ' faulted', STATE + ' withIc withPi withFt', lean=True, returns='λ regs. refl'),
-    'time/rise': by(STEP + ' risen', SPANS + ' wrapped', lean=True, returns='rw (@if1 .taken) (@wrapping-add-u16 .ensures)', returns_2='rw (@if1 .left)'),
-    'time/pass': by(STEP + ' passing', use=[TESTS], lean=True,
+    'time/release': by(STEP + ' released', STATE + ' withHold', returns='λ regs. refl'),
+    'time/fault': by(STEP + ' faulted', STATE + ' withIc withPi withFt', returns='λ regs. refl'),
+    'time/rise': by(STEP + ' risen', SPANS + ' wrapped', returns='rw (@if1 .taken) (@wrapping-add-u16 .ensures)', returns_2='rw (@if1 .left)'),
+    'time/pass': by(STEP + ' passing', use=[TESTS],
         returns='λ n e. rw (@if1 .taken, eq-eqb _ _ (@if2 .taken)) e', returns_2='λ n e. rw (@if1 .taken, ne-eqb _ _ (@if2 .left))', returns_3='λ n e. rw (@if1 .left)'),
-    'time/rises_b': by(lean=True, returns='rw (@if1 .taken)', returns_2='rw (@if1 .left)'),
-    'time/tick': by(STEP + ' ticked counted risesB', STATE + ' withPi withTa withTb withCount', lean=True,
+    'time/rises_b': by(returns='rw (@if1 .taken)', returns_2='rw (@if1 .left)'),
+    'time/tick': by(STEP + ' ticked counted risesB', STATE + ' withPi withTa withTb withCount',
         returns='λ regs. rw (← @wrapping-add-u32 .ensures, ← @rises-b .ensures, ← @pass .ensures 7 refl, ← @pass2 .ensures 9 refl, ← @rise .ensures, ← @rise2 .ensures) refl'),
     'later/raised': by(use=[OMEGA], add_result=RAISED, cast_result=RAISED, returns='rw (@if1 .taken)', returns_2='rw (@if1 .left)'),
     'later/tick_by': by(use=[OMEGA], add_count='omega (arith, @Start .pre .count-inside)', sub_tens='omega arith',

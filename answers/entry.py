@@ -9,7 +9,7 @@ CHECKED = '← @group-of .ensures .0, ← @check-span .ensures, @%s .given .1'
 CLEAR, FAULT = CHECKED % 'enum-told', CHECKED % 'verdict'
 
 A = {
-    'machine_error': by(ENTRIES + ' machineError', use=[TESTS], lean=True,
+    'machine_error': by(ENTRIES + ' machineError', use=[TESTS],
         returns='rw (eq-eqb _ _ (@if1 .taken))', returns_2='rw (ne-eqb _ _ (@if1 .left))'),
     'link_each': by(ENTRIES + ' linked linkStored refusalOf oldWords',
         returns='λ v n l. (rw (n, l, %s) refl, λ s m w a. rw (n, l, %s, ← @group-of .ensures .0, m, w, a) (@write-span .ensures))' % (CLEAR, CLEAR),

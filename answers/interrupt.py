@@ -9,14 +9,14 @@ LAST = PAGED + ' _ _ 2 (@if1 .left) ' + AT_LAST + ' %s (omega arith)'
 INSIDE = 'inside-at ' + PAGED + ' _ _ '
 
 A = {
-    'pending/take': by(ENTRIES + ' takeable', lean=True,
+    'pending/take': by(ENTRIES + ' takeable',
         returns='λ s e m. rw (e, m, @if1 .taken) refl', returns_2='λ s e m. rw (e, m, @if1 .left) refl'),
-    'pending/choose': by(use=[OMEGA, 'lib.Bits.{bitAnd}', 'lib.Count.{leading-le}', 'Rattle.machine.proofs.InterruptLaws.{chosen-leading, chosen-held}'], lean=True,
+    'pending/choose': by(use=[OMEGA, 'lib.Bits.{bitAnd}', 'lib.Count.{leading-le}', 'Rattle.machine.proofs.InterruptLaws.{chosen-leading, chosen-held}'],
         returns='λ s h e m p. sym (chosen-held s (h ∙ @if1 .taken))',
         returns_2='λ s h e m p. rw (← p, @take .ensures s e m) (sym (chosen-leading s (rw p (@Start .fits .pi .fits)) (h ∙ @if1 .left)))',
         cast_result='omega (arith, leading-le 16 (bitAnd (@args .pi) (@take .result)))'),
-    'pointers/fault_of': by(ENTRIES + ' faultOf', lean=True, returns='cc', returns_2='cc'),
-    'pointers/read_zero': by(ENTRIES + ' gotZero', lean=True, returns='@read-word .ensures'),
+    'pointers/fault_of': by(ENTRIES + ' faultOf', returns='cc', returns_2='cc'),
+    'pointers/read_zero': by(ENTRIES + ' gotZero', returns='@read-word .ensures'),
     'pointers/vector_each': by(ENTRIES + ' vectorOf', SPANS + ' wrapped'),
     'pointers/vector_found': by(FOUNDS + ' foundOr', use=[OMEGA, 'Prim.Native.Nat.{_+_, _*_}', LAWS + '{inside-at, room-before, inside-before, vector-together}'],
         mul_base='omega (arith, %s)' % (INSIDE + AT_SERVICE), shared_slice_read_base='search (needs, %s)' % (INSIDE + AT_SERVICE),
@@ -30,5 +30,5 @@ A = {
         returns='refl', returns_3='refl', returns_4='refl',
         returns_2='sym (vector-together %s (@args .n) _ _ _ (omega arith) %s (@wrapping-add-u16 .ensures) (@if1 .left) %s)' % (PAGED, AT_SERVICE, AT_LAST)),
     'pointers/vector': by(FOUNDS + ' foundOr', returns='rw (@found .given .1) at (@vector-found .ensures)', returns_2='@vector-each .ensures'),
-    'pointers/call_vector': by(ENTRIES + ' callOf', SPANS + ' wrapped', lean=True),
+    'pointers/call_vector': by(ENTRIES + ' callOf', SPANS + ' wrapped'),
 }

@@ -1,5 +1,4 @@
 # The answers from which the proofs of the crate `page` are written.
-LEAN = True
 PAGES = 'Rattle.page.specs.Pages.'
 LOOKUP = 'Rattle.page.proofs.LookupLaws.'
 
@@ -21,7 +20,7 @@ A = {
         'returns': 'admits-every _ _ (@if1 .taken)', 'returns-2': 'admits-zero _ _ (@if1 .left) (@if2 .taken)',
         'returns-3': 'admits-own _ _ (@if1 .left) (@if2 .left)'},
     'fields/forbidden': {'use': [PAGES + '{barred}'], 'unf': {'*': 'barred'}, 'returns': 'cc', 'returns-2': 'cc', 'returns-3': 'cc'},
-    'lookup/locate': {'lean': False, 'use': ['borrow.Author.Tests.{not-true, not-false}', LOOKUP + '{locked, shut, inside, outside}'],
+    'lookup/locate': {'use': ['borrow.Author.Tests.{not-true, not-false}', LOOKUP + '{locked, shut, inside, outside}'],
         'returns': 'shut _ _ _ _ _ _ (@forbidden .ensures) (@if1 .taken)',
         'returns-2': 'locked _ _ _ _ _ _ _ (@lock .ensures) (@admitted .ensures) (not-true _ (@if2 .taken))',
         'returns-3': 'inside _ _ _ _ _ _ _ (@lock .ensures) (@admitted .ensures) _ (@forbidden .ensures) (not-false _ (@if2 .left)) _ (@frame .ensures) (@if1 .left) (@if3 .taken)',

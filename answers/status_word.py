@@ -1,5 +1,4 @@
 # The answers from which the proofs of the crate `status_word` are written.
-LEAN = True
 
 A = {
     'key_of': by(STATE + ' keyOf', use=[OMEGA], returns='(refl, omega arith)'),

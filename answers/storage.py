@@ -1,5 +1,4 @@
 # The answers from which the proofs of the crate `storage` are written.
-LEAN = True
 LAWS = 'Rattle.page.proofs.SpanLaws.'
 NAT = 'Prim.Native.Nat.{_+_, _≤_}'
 

@@ -1,56 +1,74 @@
 #!/usr/bin/env python3
-"""Writes crates/isa/proofs/Open*.antt: one definition a group of crates that opens all of their definitions at once, for facts that the checker computes.
+"""Writes the modules that open all definitions of a group of crates at once, for facts that the checker computes.
 
   tools/open.py          write the files
   tools/open.py --check  say whether they are up to date (exit 1 where not)
 
-Run it in the repository's root after a definition was added, renamed or removed.
+Run it in the repository's root after a definition was added, renamed or removed. A crate with definitions that `isa` stands on and that no group has
+is an error.
 """
+import glob
 import os
 import re
 import sys
 
+# file: the name to unfold, what it opens, the crates in order
 GROUPS = {
-    'OpenWords': ('words', 'of words, integers and shifts', ['whole', 'word', 'fixed', 'divide', 'shift']),
-    'OpenFloats': ('floats', 'of floats', ['float', 'exact', 'float_add', 'float_mul', 'float_div', 'float_convert']),
-    'OpenDecoder': ('decoder', 'of decoding', ['decode']),
-    'OpenInstructions': ('instructions', "of the instruction set", ['isa']),
+    'machine/proofs/Opened': ('machinery', 'of the machine', ['page', 'bits', 'machine']),
+    'isa/proofs/OpenWords': ('words', 'of words, integers and shifts', ['whole', 'word', 'bits', 'fixed', 'divide', 'shift']),
+    'isa/proofs/OpenFloats': ('floats', 'of floats', ['float', 'exact', 'float_add', 'float_mul', 'float_div', 'float_convert']),
+    'isa/proofs/OpenDecoder': ('decoder', 'of decoding', ['decode']),
+    'isa/proofs/OpenInstructions': ('instructions', 'of the instruction set', ['isa']),
 }
 DEFINED = re.compile(r'^\s*unfoldable pub (\S+) :', re.M)
 
 
-def modules(crate):
-    folder = f'crates/{crate}/specs'
-    for name in sorted(os.listdir(folder)):
-        found = DEFINED.findall(open(f'{folder}/{name}', encoding='utf-8').read())
+def read(path):
+    with open(path, encoding='utf-8') as file:
+        return file.read()
+
+
+def modules(crate, own):
+    """The modules of a crate that have definitions, as the crate `own` names them, with the definitions."""
+    for file in sorted(glob.glob(f'crates/{crate}/specs/*.antt')):
+        found = DEFINED.findall(read(file))
         if found:
-            path = f'Rattle.isa.specs.{name[:-5]}' if crate == 'isa' else f'Rattle.{crate}.specs.{name[:-5]}'
-            yield path, found
+            place = f'Rattle.{crate}.specs' if crate == own else f'Rattle.{crate}.specs'
+            yield f'{place}.{os.path.basename(file)[:-5]}', found
 
 
 def text(file):
     name, what, crates = GROUPS[file]
-    lines, names = [], []
-    for crate in crates:
-        for path, found in modules(crate):
-            lines.append(f'use {path}.{{{", ".join(found)}}}')
-            names += found
-    return (f'-- Opens every definition {what} at once: `unfolding {name}`. Written by tools/open.py. Assumes nothing.\n' + '\n'.join(lines)
-            + f'\n\nunfoldable pub {name} : Unit {{0}}\nunfolding {" ".join(names)}\n{name} = tt\n')
+    opened = [module for crate in crates for module in modules(crate, file.split('/')[0])]
+    return (f'-- Opens every definition {what} at once: `unfolding {name}`. Written by tools/open.py. Assumes nothing.\n'
+            + ''.join(f'use {path}.{{{", ".join(found)}}}\n' for path, found in opened)
+            + f'\nunfoldable pub {name} : Unit {{0}}\nunfolding {" ".join(name for _, found in opened for name in found)}\n{name} = tt\n')
+
+
+def unknown():
+    """The crates with definitions that no group has, among those that `isa` names."""
+    below = re.search(r'^isa: (.*)$', read('crates.txt'), flags=re.M).group(1).split()
+    known = {crate for _, _, crates in GROUPS.values() for crate in crates}
+    return [crate for crate in below if crate not in known and any(modules(crate, ''))]
 
 
 def main(words):
-    stale = False
+    wrong = [f'no group of tools/open.py has the crate {crate}' for crate in unknown()]
+    print(*wrong, sep='\n', end='\n' if wrong else '')
     for file in GROUPS:
-        path = f'crates/isa/proofs/{file}.antt'
-        now = open(path, encoding='utf-8').read() if os.path.exists(path) else ''
-        if now != text(file):
-            stale = True
-            print(('stale: ' if '--check' in words else 'written: ') + path)
-            if '--check' not in words:
-                with open(path, 'w', encoding='utf-8') as out:
-                    out.write(text(file))
-    return 1 if stale and '--check' in words else 0
+        path = f'crates/{file}.antt'
+        if os.path.exists(path) and read(path) == text(file):
+            continue
+        if '--check' in words:
+            wrong.append(path)
+            print('stale: ' + path)
+        else:
+            print('written: ' + path)
+            with open(path, 'w', encoding='utf-8') as out:
+                out.write(text(file))
+    if not wrong and '--check' in words:
+        print('every module that opens definitions is up to date')
+    return 1 if wrong else 0
 
 
 if __name__ == '__main__':

@@ -1,6 +1,6 @@
 -- Chosen cases of the instruction set, each run as one step of the machine against the definitions: the places where a reading could go wrong.
 -- Rows of one table that the checker computes. Assumes nothing.
-use Prim.Native.Nat.{ℕ, _+_, _%_}
+use Prim.Native.Nat.{ℕ, _%_}
 use mathlib.Core.Bool.{Bool, true, false, _&&_, Bool·beq}
 use mathlib.Core.List.{List, [], _∷_}
 use lib.Dec.{T, eqb}

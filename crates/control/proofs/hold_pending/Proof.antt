@@ -1,11 +1,9 @@
+-- Written by tools/prove.py from answers/control.py: answer b77ed75bfd2a, proof 3e9f10c0f276.
 -- `control::hold_pending` meets its contract. Assumes nothing.
-use mathlib.Core.Path.{_≡_, refl, sym, ap, _∙_}
-use Rattle.machine.specs.State.{withPi, withHold}
-use borrow.Author.Needs.{needs}
 use Rattle.control.proofs.hold_pending.Statement.{statement}
 use Rattle.control.proofs.hold_pending.Tie as tie
-use Rattle.control.proofs.hold_pending.Reads as reads
-use Rattle.control.proofs.hold_pending.Lts as lts
+use Rattle.machine.specs.State.{withPi, withHold}
+use mathlib.Core.Path.{refl}
 
 returns : tie.Need-returns
 unfolding withPi withHold

@@ -1,12 +1,10 @@
+-- Written by tools/prove.py from answers/control.py: answer b1a7c5aa949f, proof cb0958cffb04.
 -- `control::load_status` meets its contract. Assumes nothing.
-use mathlib.Core.Path.{_≡_, refl, sym, ap, _∙_}
-use Rattle.isa.specs.Commands.{statusLoaded}
-use Rattle.machine.specs.State.{withIc, withSw, withMk}
-use borrow.Author.Needs.{needs}
 use Rattle.control.proofs.load_status.Statement.{statement}
 use Rattle.control.proofs.load_status.Tie as tie
-use Rattle.control.proofs.load_status.Reads as reads
-use Rattle.control.proofs.load_status.Lts as lts
+use Rattle.isa.specs.Commands.{statusLoaded}
+use Rattle.machine.specs.State.{withIc, withSw, withMk}
+use mathlib.Core.Path.{refl}
 
 returns : tie.Need-returns
 unfolding statusLoaded withIc withSw withMk

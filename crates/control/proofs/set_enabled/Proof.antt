@@ -1,11 +1,9 @@
+-- Written by tools/prove.py from answers/control.py: answer 4cc53c5bee53, proof 1bcc3911ea86.
 -- `control::set_enabled` meets its contract. Assumes nothing.
-use mathlib.Core.Path.{_≡_, refl, sym, ap, _∙_}
-use Rattle.machine.specs.State.{withEnabled, withHold}
-use borrow.Author.Needs.{needs}
 use Rattle.control.proofs.set_enabled.Statement.{statement}
 use Rattle.control.proofs.set_enabled.Tie as tie
-use Rattle.control.proofs.set_enabled.Reads as reads
-use Rattle.control.proofs.set_enabled.Lts as lts
+use Rattle.machine.specs.State.{withEnabled, withHold}
+use mathlib.Core.Path.{refl}
 
 returns : tie.Need-returns
 unfolding withEnabled withHold

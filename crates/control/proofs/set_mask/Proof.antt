@@ -1,11 +1,9 @@
+-- Written by tools/prove.py from answers/control.py: answer c74c0763b644, proof 71c4e04a1018.
 -- `control::set_mask` meets its contract. Assumes nothing.
-use mathlib.Core.Path.{_≡_, refl, sym, ap, _∙_}
-use Rattle.machine.specs.State.{withMk}
-use borrow.Author.Needs.{needs}
 use Rattle.control.proofs.set_mask.Statement.{statement}
 use Rattle.control.proofs.set_mask.Tie as tie
-use Rattle.control.proofs.set_mask.Reads as reads
-use Rattle.control.proofs.set_mask.Lts as lts
+use Rattle.machine.specs.State.{withMk}
+use mathlib.Core.Path.{refl}
 
 returns : tie.Need-returns
 unfolding withMk

@@ -1,11 +1,9 @@
+-- Written by tools/prove.py from answers/control.py: answer 6a818d4cc4b3, proof 5e70d4a2ecca.
 -- `control::set_pending` meets its contract. Assumes nothing.
-use mathlib.Core.Path.{_≡_, refl, sym, ap, _∙_}
-use Rattle.machine.specs.State.{withPi, withFt}
-use borrow.Author.Needs.{needs}
 use Rattle.control.proofs.set_pending.Statement.{statement}
 use Rattle.control.proofs.set_pending.Tie as tie
-use Rattle.control.proofs.set_pending.Reads as reads
-use Rattle.control.proofs.set_pending.Lts as lts
+use Rattle.machine.specs.State.{withPi, withFt}
+use mathlib.Core.Path.{refl}
 
 returns : tie.Need-returns
 unfolding withPi withFt

@@ -1,11 +1,9 @@
+-- Written by tools/prove.py from answers/control.py: answer af8835ef7d1f, proof d005bb3d14bf.
 -- `control::set_status` meets its contract. Assumes nothing.
-use mathlib.Core.Path.{_≡_, refl, sym, ap, _∙_}
-use Rattle.machine.specs.State.{withSw}
-use borrow.Author.Needs.{needs}
 use Rattle.control.proofs.set_status.Statement.{statement}
 use Rattle.control.proofs.set_status.Tie as tie
-use Rattle.control.proofs.set_status.Reads as reads
-use Rattle.control.proofs.set_status.Lts as lts
+use Rattle.machine.specs.State.{withSw}
+use mathlib.Core.Path.{refl}
 
 returns : tie.Need-returns
 unfolding withSw

@@ -1,11 +1,9 @@
+-- Written by tools/prove.py from answers/control.py: answer ff5660481034, proof e96671020e58.
 -- `control::set_timer_a` meets its contract. Assumes nothing.
-use mathlib.Core.Path.{_≡_, refl, sym, ap, _∙_}
-use Rattle.machine.specs.State.{withTa, withTaOn}
-use borrow.Author.Needs.{needs}
 use Rattle.control.proofs.set_timer_a.Statement.{statement}
 use Rattle.control.proofs.set_timer_a.Tie as tie
-use Rattle.control.proofs.set_timer_a.Reads as reads
-use Rattle.control.proofs.set_timer_a.Lts as lts
+use Rattle.machine.specs.State.{withTa, withTaOn}
+use mathlib.Core.Path.{refl}
 
 returns : tie.Need-returns
 unfolding withTa withTaOn

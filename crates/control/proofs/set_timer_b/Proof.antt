@@ -1,11 +1,9 @@
+-- Written by tools/prove.py from answers/control.py: answer 0c2f55eb1beb, proof 512c4de4ee1f.
 -- `control::set_timer_b` meets its contract. Assumes nothing.
-use mathlib.Core.Path.{_≡_, refl, sym, ap, _∙_}
-use Rattle.machine.specs.State.{withTb, withTbOn}
-use borrow.Author.Needs.{needs}
 use Rattle.control.proofs.set_timer_b.Statement.{statement}
 use Rattle.control.proofs.set_timer_b.Tie as tie
-use Rattle.control.proofs.set_timer_b.Reads as reads
-use Rattle.control.proofs.set_timer_b.Lts as lts
+use Rattle.machine.specs.State.{withTb, withTbOn}
+use mathlib.Core.Path.{refl}
 
 returns : tie.Need-returns
 unfolding withTb withTbOn

@@ -1,12 +1,9 @@
+-- Written by tools/prove.py from answers/effect.py: answer 5c6c26d94d18, proof 99e8251d8287.
 -- `effect::cs_of` meets its contract. Assumes nothing.
-use Rattle.machine.specs.State.{csOf}
-use mathlib.Core.Path.{_≡_, refl, sym, ap, _∙_}
-use Prim.Native.Nat.{_/_, _%_}
-use borrow.Author.Needs.{needs}
 use Rattle.effect.proofs.cs_of.Statement.{statement}
 use Rattle.effect.proofs.cs_of.Tie as tie
-use Rattle.effect.proofs.cs_of.Reads as reads
-use Rattle.effect.proofs.cs_of.Lts as lts
+use Rattle.machine.specs.State.{csOf}
+use mathlib.Core.Path.{refl}
 
 returns : tie.Need-returns
 unfolding csOf

@@ -1,12 +1,8 @@
+-- Written by tools/prove.py from answers/effect.py: answer ed08a831d5f1, proof 12228c3978b9.
 -- `effect::fixed_overflow` meets its contract. Assumes nothing.
-use Rattle.isa.specs.Effects.{fixedOverflow}
-use mathlib.Core.Path.{_≡_, refl, sym, ap, _∙_}
-use Prim.Native.Nat.{_/_, _%_}
-use borrow.Author.Needs.{needs}
 use Rattle.effect.proofs.fixed_overflow.Statement.{statement}
 use Rattle.effect.proofs.fixed_overflow.Tie as tie
-use Rattle.effect.proofs.fixed_overflow.Reads as reads
-use Rattle.effect.proofs.fixed_overflow.Lts as lts
+use Rattle.isa.specs.Effects.{fixedOverflow}
 
 returns : tie.Need-returns
 unfolding fixedOverflow

@@ -1,12 +1,8 @@
+-- Written by tools/prove.py from answers/effect.py: answer 7bed9db26a03, proof c6edfd550dbf.
 -- `effect::float_faults` meets its contract. Assumes nothing.
-use Rattle.isa.specs.Effects.{floatFaults}
-use mathlib.Core.Path.{_≡_, refl, sym, ap, _∙_}
-use Prim.Native.Nat.{_/_, _%_}
-use borrow.Author.Needs.{needs}
 use Rattle.effect.proofs.float_faults.Statement.{statement}
 use Rattle.effect.proofs.float_faults.Tie as tie
-use Rattle.effect.proofs.float_faults.Reads as reads
-use Rattle.effect.proofs.float_faults.Lts as lts
+use Rattle.isa.specs.Effects.{floatFaults}
 
 returns : tie.Need-returns
 unfolding floatFaults

@@ -1,8 +1,9 @@
+-- Written by tools/prove.py from answers/entry.py: answer a9b515e688b4, proof 85f7b5fe4dcb.
 -- `entry::machine_error` meets its contract. Assumes nothing.
-use borrow.Author.Tests.{eq-eqb, ne-eqb}
-use Rattle.machine.specs.Entries.{machineError}
 use Rattle.entry.proofs.machine_error.Statement.{statement}
 use Rattle.entry.proofs.machine_error.Tie as tie
+use Rattle.machine.specs.Entries.{machineError}
+use borrow.Author.Tests.{eq-eqb, ne-eqb}
 
 returns : tie.Need-returns
 unfolding machineError

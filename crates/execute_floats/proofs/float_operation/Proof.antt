@@ -1,159 +1,17 @@
+-- Written by tools/prove.py from answers/execute_floats.py: answer c60c5b669587, proof f91bdc5cbd4e.
 -- `execute_floats::float_operation` meets its contract. Assumes nothing.
-use Rattle.isa.specs.Floats.{floatOperation}
-use Rattle.float_words.specs.Operands.{arithmetic, resigned}
-use Rattle.float_words.proofs.FloatEffects.{combined24-is, combined40-is, changed24-is, compared24-is, compared40-is}
-use Rattle.float_add.specs.Add.{sumOf, differenceOf}
-use Rattle.float_mul.specs.Multiply.{productOf}
-use Rattle.float_div.specs.Divide.{quotientOf}
-use Rattle.float_convert.specs.Convert.{negatedOf, absoluteOf}
-use mathlib.Core.Path.{_≡_, refl, sym, ap, _∙_}
-use Prim.Native.Nat.{_/_, _%_, _+_}
-use borrow.Author.Tests.{ne-eqb}
-use native.Mathlib.Omega.{arith}
-use borrow.Author.Needs.{needs}
 use Rattle.execute_floats.proofs.float_operation.Statement.{statement}
 use Rattle.execute_floats.proofs.float_operation.Tie as tie
-
-field-a-requires : tie.Need-field-a-requires
-field-a-requires c κs = search needs
-
-accumulator-of-requires : tie.Need-accumulator-of-requires
-accumulator-of-requires c κs = search needs
-
-both24-requires : tie.Need-both24-requires
-both24-requires c κs = search needs
-
-combine-requires : tie.Need-combine-requires
-combine-requires c κs = search needs
-
-give24-requires : tie.Need-give24-requires
-give24-requires c κs = search needs
-
-both40-requires : tie.Need-both40-requires
-both40-requires c κs = search needs
-
-combine-requires-2 : tie.Need-combine-requires-2
-combine-requires-2 c κs = search needs
-
-give40-requires : tie.Need-give40-requires
-give40-requires c κs = search needs
-
-both24-requires-2 : tie.Need-both24-requires-2
-both24-requires-2 c κs = search needs
-
-change24-requires : tie.Need-change24-requires
-change24-requires c κs = search needs
-
-give24-requires-2 : tie.Need-give24-requires-2
-give24-requires-2 c κs = search needs
-
-both24-requires-3 : tie.Need-both24-requires-3
-both24-requires-3 c κs = search needs
-
-combine-requires-3 : tie.Need-combine-requires-3
-combine-requires-3 c κs = search needs
-
-give24-requires-3 : tie.Need-give24-requires-3
-give24-requires-3 c κs = search needs
-
-both40-requires-2 : tie.Need-both40-requires-2
-both40-requires-2 c κs = search needs
-
-combine-requires-4 : tie.Need-combine-requires-4
-combine-requires-4 c κs = search needs
-
-give40-requires-2 : tie.Need-give40-requires-2
-give40-requires-2 c κs = search needs
-
-both24-requires-4 : tie.Need-both24-requires-4
-both24-requires-4 c κs = search needs
-
-change24-requires-2 : tie.Need-change24-requires-2
-change24-requires-2 c κs = search needs
-
-give24-requires-4 : tie.Need-give24-requires-4
-give24-requires-4 c κs = search needs
-
-both24-requires-5 : tie.Need-both24-requires-5
-both24-requires-5 c κs = search needs
-
-combine-requires-5 : tie.Need-combine-requires-5
-combine-requires-5 c κs = search needs
-
-give24-requires-5 : tie.Need-give24-requires-5
-give24-requires-5 c κs = search needs
-
-both40-requires-3 : tie.Need-both40-requires-3
-both40-requires-3 c κs = search needs
-
-combine-requires-6 : tie.Need-combine-requires-6
-combine-requires-6 c κs = search needs
-
-give40-requires-3 : tie.Need-give40-requires-3
-give40-requires-3 c κs = search needs
-
-both24-requires-6 : tie.Need-both24-requires-6
-both24-requires-6 c κs = search needs
-
-combine-requires-7 : tie.Need-combine-requires-7
-combine-requires-7 c κs = search needs
-
-give24-requires-6 : tie.Need-give24-requires-6
-give24-requires-6 c κs = search needs
-
-both40-requires-4 : tie.Need-both40-requires-4
-both40-requires-4 c κs = search needs
-
-combine-requires-8 : tie.Need-combine-requires-8
-combine-requires-8 c κs = search needs
-
-give40-requires-4 : tie.Need-give40-requires-4
-give40-requires-4 c κs = search needs
-
-to-integer-requires : tie.Need-to-integer-requires
-to-integer-requires c κs = search needs
-
-operand-of-requires : tie.Need-operand-of-requires
-operand-of-requires c κs = search needs
-
-float24-requires : tie.Need-float24-requires
-float24-requires c κs = search needs
-
-give24-requires-7 : tie.Need-give24-requires-7
-give24-requires-7 c κs = search needs
-
-to-double-integer-requires : tie.Need-to-double-integer-requires
-to-double-integer-requires c κs = search needs
-
-double-operand-requires : tie.Need-double-operand-requires
-double-operand-requires c κs = search needs
-
-float40-requires : tie.Need-float40-requires
-float40-requires c κs = search needs
-
-give40-requires-5 : tie.Need-give40-requires-5
-give40-requires-5 c κs = search needs
-
-both24-requires-7 : tie.Need-both24-requires-7
-both24-requires-7 c κs = search needs
-
-compare-both-requires : tie.Need-compare-both-requires
-compare-both-requires c κs = search needs
-
-tested-requires : tie.Need-tested-requires
-tested-requires c κs = search needs
-
-both40-requires-5 : tie.Need-both40-requires-5
-both40-requires-5 c κs = search needs
-
-compare-both-requires-2 : tie.Need-compare-both-requires-2
-compare-both-requires-2 c κs = search needs
-
-tested-requires-2 : tie.Need-tested-requires-2
-tested-requires-2 c κs = search needs
-
-nothing-requires : tie.Need-nothing-requires
-nothing-requires c κs = search needs
+use Rattle.float_add.specs.Add.{sumOf, differenceOf}
+use Rattle.float_convert.specs.Convert.{negatedOf, absoluteOf}
+use Rattle.float_div.specs.Divide.{quotientOf}
+use Rattle.float_mul.specs.Multiply.{productOf}
+use Rattle.float_words.proofs.FloatEffects.{combined24-is, combined40-is, changed24-is, compared24-is, compared40-is}
+use Rattle.float_words.specs.Operands.{arithmetic, resigned}
+use Rattle.isa.specs.Floats.{floatOperation}
+use borrow.Author.Needs.{needs}
+use borrow.Author.Tests.{ne-eqb}
+use mathlib.Core.Path.{_∙_}
 
 returns : tie.Need-returns
 unfolding floatOperation arithmetic resigned
@@ -226,68 +84,13 @@ returns-17 c = rw (ne-eqb _ _ (c .before .match .rest .0 .0 .0 .0 .0 .0 .0 .0 .0
 pub float-operation-spec : {M : Type 1} → statement M
 float-operation-spec =
     tie.close
-    (tie.spec
-    field-a-requires
-    accumulator-of-requires
-    both24-requires
-    combine-requires
-    give24-requires
-    both40-requires
-    combine-requires-2
-    give40-requires
-    both24-requires-2
-    change24-requires
-    give24-requires-2
-    both24-requires-3
-    combine-requires-3
-    give24-requires-3
-    both40-requires-2
-    combine-requires-4
-    give40-requires-2
-    both24-requires-4
-    change24-requires-2
-    give24-requires-4
-    both24-requires-5
-    combine-requires-5
-    give24-requires-5
-    both40-requires-3
-    combine-requires-6
-    give40-requires-3
-    both24-requires-6
-    combine-requires-7
-    give24-requires-6
-    both40-requires-4
-    combine-requires-8
-    give40-requires-4
-    to-integer-requires
-    operand-of-requires
-    float24-requires
-    give24-requires-7
-    to-double-integer-requires
-    double-operand-requires
-    float40-requires
-    give40-requires-5
-    both24-requires-7
-    compare-both-requires
-    tested-requires
-    both40-requires-5
-    compare-both-requires-2
-    tested-requires-2
-    nothing-requires
-    returns
-    returns-2
-    returns-3
-    returns-4
-    returns-5
-    returns-6
-    returns-7
-    returns-8
-    returns-9
-    returns-10
-    returns-11
-    returns-12
-    returns-13
-    returns-14
-    returns-15
-    returns-16
+    (tie.spec (λ c κs. search needs) (λ c κs. search needs) (λ c κs. search needs) (λ c κs. search needs) (λ c κs. search needs) (λ c κs. search needs)
+    (λ c κs. search needs) (λ c κs. search needs) (λ c κs. search needs) (λ c κs. search needs) (λ c κs. search needs) (λ c κs. search needs)
+    (λ c κs. search needs) (λ c κs. search needs) (λ c κs. search needs) (λ c κs. search needs) (λ c κs. search needs) (λ c κs. search needs)
+    (λ c κs. search needs) (λ c κs. search needs) (λ c κs. search needs) (λ c κs. search needs) (λ c κs. search needs) (λ c κs. search needs)
+    (λ c κs. search needs) (λ c κs. search needs) (λ c κs. search needs) (λ c κs. search needs) (λ c κs. search needs) (λ c κs. search needs)
+    (λ c κs. search needs) (λ c κs. search needs) (λ c κs. search needs) (λ c κs. search needs) (λ c κs. search needs) (λ c κs. search needs)
+    (λ c κs. search needs) (λ c κs. search needs) (λ c κs. search needs) (λ c κs. search needs) (λ c κs. search needs) (λ c κs. search needs)
+    (λ c κs. search needs) (λ c κs. search needs) (λ c κs. search needs) (λ c κs. search needs) (λ c κs. search needs) returns returns-2 returns-3
+    returns-4 returns-5 returns-6 returns-7 returns-8 returns-9 returns-10 returns-11 returns-12 returns-13 returns-14 returns-15 returns-16
     returns-17)

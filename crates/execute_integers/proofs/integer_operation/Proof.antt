@@ -1,151 +1,23 @@
+-- Written by tools/prove.py from answers/execute_integers.py: answer af16293a395e, proof 1aef3a8121d5.
 -- `execute_integers::integer_operation` meets its contract. Assumes nothing.
-use Rattle.isa.specs.Integers.{integerOperation}
-use Rattle.execute_integers.specs.Doubles.{arithmetic}
-use mathlib.Core.Path.{_≡_, refl, sym, ap, _∙_}
-use Prim.Native.Nat.{_/_, _%_, _+_}
-use borrow.Author.Tests.{ne-eqb}
-use native.Mathlib.Omega.{arith}
-use borrow.Author.Needs.{needs}
 use Rattle.execute_integers.proofs.integer_operation.Statement.{statement}
 use Rattle.execute_integers.proofs.integer_operation.Tie as tie
-
-field-a-requires : tie.Need-field-a-requires
-field-a-requires c κs = search needs
-
-accumulator-of-requires : tie.Need-accumulator-of-requires
-accumulator-of-requires c κs = search needs
-
-operand-of-requires : tie.Need-operand-of-requires
-operand-of-requires c κs = search needs
-
-get-requires : tie.Need-get-requires
-get-requires c κs = search needs
-
-add16-requires : tie.Need-add16-requires
-add16-requires c κs = search needs
-
-single-outcome-requires : tie.Need-single-outcome-requires
-single-outcome-requires c κs = search needs
-
-add-add16 : tie.Need-add-add16
-add-add16 c = search needs
-
-add16-requires-2 : tie.Need-add16-requires-2
-add16-requires-2 c κs = search needs
-
-memory-outcome-requires : tie.Need-memory-outcome-requires
-memory-outcome-requires c κs = search needs
-
-absolute16-requires : tie.Need-absolute16-requires
-absolute16-requires c κs = search needs
-
-single-outcome-requires-2 : tie.Need-single-outcome-requires-2
-single-outcome-requires-2 c κs = search needs
-
-double-operand-requires : tie.Need-double-operand-requires
-double-operand-requires c κs = search needs
-
-absolute32-requires : tie.Need-absolute32-requires
-absolute32-requires c κs = search needs
-
-double-outcome-requires : tie.Need-double-outcome-requires
-double-outcome-requires c κs = search needs
+use Rattle.execute_integers.specs.Doubles.{arithmetic}
+use Rattle.isa.specs.Integers.{integerOperation}
+use borrow.Author.Needs.{needs}
+use borrow.Author.Tests.{ne-eqb}
 
 combine32-requires : tie.Need-combine32-requires
 combine32-requires c κs = c .before .before .before .before .field-a .ensures .1
 
-double-outcome-requires-2 : tie.Need-double-outcome-requires-2
-double-outcome-requires-2 c κs = search needs
-
-get-requires-2 : tie.Need-get-requires-2
-get-requires-2 c κs = search needs
-
-sub16-requires : tie.Need-sub16-requires
-sub16-requires c κs = search needs
-
-single-outcome-requires-3 : tie.Need-single-outcome-requires-3
-single-outcome-requires-3 c κs = search needs
-
-add-sub16 : tie.Need-add-sub16
-add-sub16 c = search needs
-
-sub16-requires-2 : tie.Need-sub16-requires-2
-sub16-requires-2 c κs = search needs
-
-memory-outcome-requires-2 : tie.Need-memory-outcome-requires-2
-memory-outcome-requires-2 c κs = search needs
-
-negate16-requires : tie.Need-negate16-requires
-negate16-requires c κs = search needs
-
-single-outcome-requires-4 : tie.Need-single-outcome-requires-4
-single-outcome-requires-4 c κs = search needs
-
-double-operand-requires-2 : tie.Need-double-operand-requires-2
-double-operand-requires-2 c κs = search needs
-
-negate32-requires : tie.Need-negate32-requires
-negate32-requires c κs = search needs
-
-double-outcome-requires-3 : tie.Need-double-outcome-requires-3
-double-outcome-requires-3 c κs = search needs
-
 combine32-requires-2 : tie.Need-combine32-requires-2
 combine32-requires-2 c κs = c .before .before .before .before .field-a .ensures .1
-
-double-outcome-requires-4 : tie.Need-double-outcome-requires-4
-double-outcome-requires-4 c κs = search needs
-
-get-requires-3 : tie.Need-get-requires-3
-get-requires-3 c κs = search needs
-
-multiply16-requires : tie.Need-multiply16-requires
-multiply16-requires c κs = search needs
-
-single-outcome-requires-5 : tie.Need-single-outcome-requires-5
-single-outcome-requires-5 c κs = search needs
-
-get-requires-4 : tie.Need-get-requires-4
-get-requires-4 c κs = search needs
-
-multiply-long-requires : tie.Need-multiply-long-requires
-multiply-long-requires c κs = search needs
-
-double-outcome-requires-5 : tie.Need-double-outcome-requires-5
-double-outcome-requires-5 c κs = search needs
 
 combine32-requires-3 : tie.Need-combine32-requires-3
 combine32-requires-3 c κs = c .before .before .before .before .field-a .ensures .1
 
-double-outcome-requires-6 : tie.Need-double-outcome-requires-6
-double-outcome-requires-6 c κs = search needs
-
-get-requires-5 : tie.Need-get-requires-5
-get-requires-5 c κs = search needs
-
-divide16-requires : tie.Need-divide16-requires
-divide16-requires c κs = search needs
-
-quotient-outcome-requires : tie.Need-quotient-outcome-requires
-quotient-outcome-requires c κs = search needs
-
-pair-at-requires : tie.Need-pair-at-requires
-pair-at-requires c κs = search needs
-
-divide-long-requires : tie.Need-divide-long-requires
-divide-long-requires c κs = search needs
-
-quotient-outcome-requires-2 : tie.Need-quotient-outcome-requires-2
-quotient-outcome-requires-2 c κs = search needs
-
 combine32-requires-4 : tie.Need-combine32-requires-4
 combine32-requires-4 c κs = c .before .before .before .before .field-a .ensures .1
-
-double-outcome-requires-7 : tie.Need-double-outcome-requires-7
-double-outcome-requires-7 c κs = search needs
-
-nothing-requires : tie.Need-nothing-requires
-nothing-requires c κs = search needs
 
 returns : tie.Need-returns
 unfolding integerOperation arithmetic
@@ -218,67 +90,12 @@ returns-17 c = rw (ne-eqb _ _ (c .before .match .rest .0 .0 .0 .0 .0 .0 .0 .0 .0
 pub integer-operation-spec : {M : Type 1} → statement M
 integer-operation-spec =
     tie.close
-    (tie.spec
-    field-a-requires
-    accumulator-of-requires
-    operand-of-requires
-    get-requires
-    add16-requires
-    single-outcome-requires
-    add-add16
-    add16-requires-2
-    memory-outcome-requires
-    absolute16-requires
-    single-outcome-requires-2
-    double-operand-requires
-    absolute32-requires
-    double-outcome-requires
-    combine32-requires
-    double-outcome-requires-2
-    get-requires-2
-    sub16-requires
-    single-outcome-requires-3
-    add-sub16
-    sub16-requires-2
-    memory-outcome-requires-2
-    negate16-requires
-    single-outcome-requires-4
-    double-operand-requires-2
-    negate32-requires
-    double-outcome-requires-3
-    combine32-requires-2
-    double-outcome-requires-4
-    get-requires-3
-    multiply16-requires
-    single-outcome-requires-5
-    get-requires-4
-    multiply-long-requires
-    double-outcome-requires-5
-    combine32-requires-3
-    double-outcome-requires-6
-    get-requires-5
-    divide16-requires
-    quotient-outcome-requires
-    pair-at-requires
-    divide-long-requires
-    quotient-outcome-requires-2
-    combine32-requires-4
-    double-outcome-requires-7
-    nothing-requires
-    returns
-    returns-2
-    returns-3
-    returns-4
-    returns-5
-    returns-6
-    returns-7
-    returns-8
-    returns-9
-    returns-10
-    returns-11
-    returns-12
-    returns-13
-    returns-14
-    returns-15
-    returns-16
-    returns-17)
+    (tie.spec (λ c κs. search needs) (λ c κs. search needs) (λ c κs. search needs) (λ c κs. search needs) (λ c κs. search needs) (λ c κs. search needs)
+    (λ c. search needs) (λ c κs. search needs) (λ c κs. search needs) (λ c κs. search needs) (λ c κs. search needs) (λ c κs. search needs)
+    (λ c κs. search needs) (λ c κs. search needs) combine32-requires (λ c κs. search needs) (λ c κs. search needs) (λ c κs. search needs)
+    (λ c κs. search needs) (λ c. search needs) (λ c κs. search needs) (λ c κs. search needs) (λ c κs. search needs) (λ c κs. search needs)
+    (λ c κs. search needs) (λ c κs. search needs) (λ c κs. search needs) combine32-requires-2 (λ c κs. search needs) (λ c κs. search needs)
+    (λ c κs. search needs) (λ c κs. search needs) (λ c κs. search needs) (λ c κs. search needs) (λ c κs. search needs) combine32-requires-3
+    (λ c κs. search needs) (λ c κs. search needs) (λ c κs. search needs) (λ c κs. search needs) (λ c κs. search needs) (λ c κs. search needs)
+    (λ c κs. search needs) combine32-requires-4 (λ c κs. search needs) (λ c κs. search needs) returns returns-2 returns-3 returns-4 returns-5 returns-6
+    returns-7 returns-8 returns-9 returns-10 returns-11 returns-12 returns-13 returns-14 returns-15 returns-16 returns-17)

@@ -1,99 +1,10 @@
+-- Written by tools/prove.py from answers/execute_integers.py: answer 96dafee4cb67, proof cd0923982daf.
 -- `execute_integers::logical_operation` meets its contract. Assumes nothing.
-use Rattle.isa.specs.Integers.{logicalOperation}
-use mathlib.Core.Path.{_≡_, refl, sym, ap, _∙_}
-use Prim.Native.Nat.{_/_, _%_, _+_}
-use borrow.Author.Tests.{ne-eqb}
-use native.Mathlib.Omega.{arith}
-use borrow.Author.Needs.{needs}
 use Rattle.execute_integers.proofs.logical_operation.Statement.{statement}
 use Rattle.execute_integers.proofs.logical_operation.Tie as tie
-
-field-a-requires : tie.Need-field-a-requires
-field-a-requires c κs = search needs
-
-accumulator-of-requires : tie.Need-accumulator-of-requires
-accumulator-of-requires c κs = search needs
-
-operand-of-requires : tie.Need-operand-of-requires
-operand-of-requires c κs = search needs
-
-get-requires : tie.Need-get-requires
-get-requires c κs = search needs
-
-or-requires : tie.Need-or-requires
-or-requires c κs = search needs
-
-single-requires : tie.Need-single-requires
-single-requires c κs = search needs
-
-get-requires-2 : tie.Need-get-requires-2
-get-requires-2 c κs = search needs
-
-and-requires : tie.Need-and-requires
-and-requires c κs = search needs
-
-single-requires-2 : tie.Need-single-requires-2
-single-requires-2 c κs = search needs
-
-get-requires-3 : tie.Need-get-requires-3
-get-requires-3 c κs = search needs
-
-xor-requires : tie.Need-xor-requires
-xor-requires c κs = search needs
-
-single-requires-3 : tie.Need-single-requires-3
-single-requires-3 c κs = search needs
-
-get-requires-4 : tie.Need-get-requires-4
-get-requires-4 c κs = search needs
-
-nand-requires : tie.Need-nand-requires
-nand-requires c κs = search needs
-
-single-requires-4 : tie.Need-single-requires-4
-single-requires-4 c κs = search needs
-
-get-requires-5 : tie.Need-get-requires-5
-get-requires-5 c κs = search needs
-
-exchange-bytes-requires : tie.Need-exchange-bytes-requires
-exchange-bytes-requires c κs = search needs
-
-single-requires-5 : tie.Need-single-requires-5
-single-requires-5 c κs = search needs
-
-get-requires-6 : tie.Need-get-requires-6
-get-requires-6 c κs = search needs
-
-compare16-requires : tie.Need-compare16-requires
-compare16-requires c κs = search needs
-
-tested-requires : tie.Need-tested-requires
-tested-requires c κs = search needs
-
-get-requires-7 : tie.Need-get-requires-7
-get-requires-7 c κs = search needs
-
-compare-limits-requires : tie.Need-compare-limits-requires
-compare-limits-requires c κs = search needs
-
-tested-requires-2 : tie.Need-tested-requires-2
-tested-requires-2 c κs = search needs
-
-pair-at-requires : tie.Need-pair-at-requires
-pair-at-requires c κs = search needs
-
-double-operand-requires : tie.Need-double-operand-requires
-double-operand-requires c κs = search needs
-
-compare32-requires : tie.Need-compare32-requires
-compare32-requires c κs = search needs
-
-tested-requires-3 : tie.Need-tested-requires-3
-tested-requires-3 c κs = search needs
-
-nothing-requires : tie.Need-nothing-requires
-nothing-requires c κs = search needs
+use Rattle.isa.specs.Integers.{logicalOperation}
+use borrow.Author.Needs.{needs}
+use borrow.Author.Tests.{ne-eqb}
 
 returns : tie.Need-returns
 unfolding logicalOperation
@@ -134,42 +45,9 @@ returns-9 c = rw (ne-eqb _ _ (c .before .match .rest .0 .0 .0 .0 .0 .0 .0 .1), n
 pub logical-operation-spec : {M : Type 1} → statement M
 logical-operation-spec =
     tie.close
-    (tie.spec
-    field-a-requires
-    accumulator-of-requires
-    operand-of-requires
-    get-requires
-    or-requires
-    single-requires
-    get-requires-2
-    and-requires
-    single-requires-2
-    get-requires-3
-    xor-requires
-    single-requires-3
-    get-requires-4
-    nand-requires
-    single-requires-4
-    get-requires-5
-    exchange-bytes-requires
-    single-requires-5
-    get-requires-6
-    compare16-requires
-    tested-requires
-    get-requires-7
-    compare-limits-requires
-    tested-requires-2
-    pair-at-requires
-    double-operand-requires
-    compare32-requires
-    tested-requires-3
-    nothing-requires
-    returns
-    returns-2
-    returns-3
-    returns-4
-    returns-5
-    returns-6
-    returns-7
-    returns-8
-    returns-9)
+    (tie.spec (λ c κs. search needs) (λ c κs. search needs) (λ c κs. search needs) (λ c κs. search needs) (λ c κs. search needs) (λ c κs. search needs)
+    (λ c κs. search needs) (λ c κs. search needs) (λ c κs. search needs) (λ c κs. search needs) (λ c κs. search needs) (λ c κs. search needs)
+    (λ c κs. search needs) (λ c κs. search needs) (λ c κs. search needs) (λ c κs. search needs) (λ c κs. search needs) (λ c κs. search needs)
+    (λ c κs. search needs) (λ c κs. search needs) (λ c κs. search needs) (λ c κs. search needs) (λ c κs. search needs) (λ c κs. search needs)
+    (λ c κs. search needs) (λ c κs. search needs) (λ c κs. search needs) (λ c κs. search needs) (λ c κs. search needs) returns returns-2 returns-3
+    returns-4 returns-5 returns-6 returns-7 returns-8 returns-9)

@@ -1,11 +1,9 @@
+-- Written by tools/prove.py from answers/gather.py: answer f1c39a884c62, proof a9be9064fe37.
 -- `gather::complete` meets its contract. Assumes nothing.
-use mathlib.Core.Path.{_≡_, refl, sym, ap, _∙_}
-use Rattle.gather.specs.Gathers.{complete}
-use borrow.Author.Needs.{needs}
 use Rattle.gather.proofs.complete.Statement.{statement}
 use Rattle.gather.proofs.complete.Tie as tie
-use Rattle.gather.proofs.complete.Reads as reads
-use Rattle.gather.proofs.complete.Lts as lts
+use Rattle.gather.specs.Gathers.{complete}
+use mathlib.Core.Path.{refl}
 
 returns : tie.Need-returns
 unfolding complete

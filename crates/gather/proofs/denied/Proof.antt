@@ -1,11 +1,9 @@
+-- Written by tools/prove.py from answers/gather.py: answer 8f455f676c3c, proof f67916724732.
 -- `gather::denied` meets its contract. Assumes nothing.
-use mathlib.Core.Path.{_≡_, refl, sym, ap, _∙_}
-use Rattle.gather.specs.Gathers.{denied}
-use borrow.Author.Needs.{needs}
 use Rattle.gather.proofs.denied.Statement.{statement}
 use Rattle.gather.proofs.denied.Tie as tie
-use Rattle.gather.proofs.denied.Reads as reads
-use Rattle.gather.proofs.denied.Lts as lts
+use Rattle.gather.specs.Gathers.{denied}
+use mathlib.Core.Path.{refl}
 
 returns : tie.Need-returns
 unfolding denied

@@ -1,14 +1,12 @@
+-- Written by tools/prove.py from answers/gather.py: answer 301f868529c0, proof 50f1e1da308a.
 -- `gather::store_at` meets its contract. Assumes nothing.
-use mathlib.Core.Path.{_≡_, refl, sym, ap, _∙_}
-use borrow.Author.Tests.{le-ltb, lt-ltb}
-use Rattle.page.proofs.SpanLaws.{kept, taken}
-use Rattle.gather.specs.Stores.{storedOne}
-use borrow.Author.Needs.{needs}
 use Rattle.gather.proofs.store_at.Statement.{statement}
 use Rattle.gather.proofs.store_at.Tie as tie
-use Rattle.gather.proofs.store_at.Reads as reads
-use Rattle.gather.proofs.store_at.Lts as lts
-use Rattle.storage.proofs.write.write_word.Reads as write-word-reads
+use Rattle.gather.specs.Stores.{storedOne}
+use Rattle.page.proofs.SpanLaws.{kept, taken}
+use borrow.Author.Needs.{needs}
+use borrow.Author.Tests.{le-ltb, lt-ltb}
+use mathlib.Core.Path.{refl}
 
 returns : tie.Need-returns
 unfolding storedOne
@@ -18,15 +16,9 @@ returns-2 : tie.Need-returns-2
 unfolding storedOne
 returns-2 c = rw (lt-ltb _ _ (c .before .before .if1 .left)) (kept (c .before .before .before .before .before .before .args .span) (c .before .before .before .before .before .before .args .j) _ _ (c .if2 .taken))
 
-write-word-requires : tie.Need-write-word-requires
-write-word-requires c κs = search needs
-
-same-length : tie.Need-same-length
-same-length c = search needs
-
 returns-3 : tie.Need-returns-3
 unfolding storedOne
 returns-3 c = rw (lt-ltb _ _ (c .before .before .before .before .before .before .if1 .left)) (taken (c .before .before .before .before .before .before .before .before .before .before .args .span) (c .before .before .before .before .before .before .before .before .before .before .args .j) _ _ _ (c .before .before .before .before .if2 .left) (c .before .before .write-word .ensures))
 
 pub store-at-spec : {M : Type 1} → statement M
-store-at-spec = tie.close (tie.spec returns returns-2 write-word-requires same-length returns-3)
+store-at-spec = tie.close (tie.spec returns returns-2 (λ c κs. search needs) (λ c. search needs) returns-3)

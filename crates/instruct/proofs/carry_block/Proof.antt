@@ -1,29 +1,19 @@
+-- Written by tools/prove.py from answers/instruct.py: answer eac8d4f2d543, proof b693efdd3f9a.
 -- `instruct::carry_block` meets its contract. Assumes nothing.
-use mathlib.Core.Path.{_≡_, refl, sym, ap, _∙_}
 use Rattle.clock.specs.Later.{later}
-use Rattle.moved.proofs.ActLaws.{carried-clear}
 use Rattle.instruct.proofs.UserLaws.{became-worked, block-user, settled-by}
-use Rattle.one_page.proofs.HereLaws.{attempt-done, attempt-left}
-use Rattle.machine.specs.State.{joined}
-use Rattle.machine.specs.Instructions.{operated}
-use Rattle.isa.specs.Mil1750.{mil1750, contextOf}
-use borrow.Author.Needs.{needs}
 use Rattle.instruct.proofs.carry_block.Statement.{statement}
 use Rattle.instruct.proofs.carry_block.Tie as tie
-use Rattle.instruct.proofs.carry_block.Reads as reads
-use Rattle.instruct.proofs.carry_block.Lts as lts
-use Rattle.one_page.proofs.here.try_block.Reads as try-block-reads
-use Rattle.instruct.proofs.carry_words.Reads as carry-words-reads
-use Rattle.moved.proofs.weighed.Reads as weighed-reads
+use Rattle.isa.specs.Mil1750.{mil1750, contextOf}
+use Rattle.machine.specs.Instructions.{operated}
+use Rattle.machine.specs.State.{joined}
+use Rattle.moved.proofs.ActLaws.{carried-clear}
+use Rattle.one_page.proofs.HereLaws.{attempt-done, attempt-left}
+use borrow.Author.Needs.{needs}
+use mathlib.Core.Path.{refl}
 
 try-block-requires : tie.Need-try-block-requires
 try-block-requires c κs = (c .before .before .before .before .pre .0, c .before .before .before .before .pre .2, c .before .before .before .before .pre .3, c .before .before .before .before .pre .4)
-
-weighed-requires : tie.Need-weighed-requires
-weighed-requires c κs = search needs
-
-same-length : tie.Need-same-length
-same-length c = search needs
 
 returns : tie.Need-returns
 unfolding operated mil1750 contextOf
@@ -32,9 +22,6 @@ returns c = (λ lag ports. rw (← carried-clear (later lag (joined (c .before .
 carry-words-requires : tie.Need-carry-words-requires
 carry-words-requires c κs = (c .before .before .before .before .before .before .before .before .before .before .pre .0, c .before .before .before .before .before .before .before .before .before .before .pre .1)
 
-same-length-2 : tie.Need-same-length-2
-same-length-2 c = search needs
-
 returns-2 : tie.Need-returns-2
 unfolding operated mil1750 contextOf
 returns-2 c = rw (← attempt-left (joined (c .before .before .before .before .before .before .before .before .before .before .before .before .before .args .core) (c .before .before .before .before .before .before .before .before .before .before .before .before .before .args .regs .now)) (c .before .before .before .before .before .before .before .before .before .before .before .before .before .args .memory .now) (c .before .before .before .before .before .before .before .before .before .before .before .before .before .args .pages .now) (c .before .before .before .before .before .before .before .before .before .before .before .before .before .args .n) _ _ _ (c .before .before .before .before .before .if1 .left) (c .before .before .before .before .before .before .before .before .try-block .ensures) .0, ← attempt-left (joined (c .before .before .before .before .before .before .before .before .before .before .before .before .before .args .core) (c .before .before .before .before .before .before .before .before .before .before .before .before .before .args .regs .now)) (c .before .before .before .before .before .before .before .before .before .before .before .before .before .args .memory .now) (c .before .before .before .before .before .before .before .before .before .before .before .before .before .args .pages .now) (c .before .before .before .before .before .before .before .before .before .before .before .before .before .args .n) _ _ _ (c .before .before .before .before .before .if1 .left) (c .before .before .before .before .before .before .before .before .try-block .ensures) .1) (c .before .before .carry-words .ensures)
@@ -42,11 +29,4 @@ returns-2 c = rw (← attempt-left (joined (c .before .before .before .before .b
 pub carry-block-spec : {M : Type 1} → statement M
 carry-block-spec =
     tie.close
-    (tie.spec
-    try-block-requires
-    weighed-requires
-    same-length
-    returns
-    carry-words-requires
-    same-length-2
-    returns-2)
+    (tie.spec try-block-requires (λ c κs. search needs) (λ c. search needs) returns carry-words-requires (λ c. search needs) returns-2)

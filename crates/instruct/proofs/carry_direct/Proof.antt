@@ -1,42 +1,22 @@
+-- Written by tools/prove.py from answers/instruct.py: answer d2e0092293fc, proof b6bb95cac7d5.
 -- `instruct::carry_direct` meets its contract. Assumes nothing.
-use mathlib.Core.Path.{_≡_, refl, sym, ap, _∙_}
 use Rattle.clock.specs.Later.{later}
-use Rattle.moved.proofs.ActLaws.{carried-clear, carried-fault, failed}
 use Rattle.instruct.proofs.UserLaws.{became-worked, settled-by}
-use Rattle.machine.specs.State.{joined}
-use Rattle.machine.specs.Instructions.{operated}
-use Rattle.isa.specs.Mil1750.{mil1750, contextOf}
-use borrow.Author.Needs.{needs}
 use Rattle.instruct.proofs.carry_direct.Statement.{statement}
 use Rattle.instruct.proofs.carry_direct.Tie as tie
-use Rattle.instruct.proofs.carry_direct.Reads as reads
-use Rattle.instruct.proofs.carry_direct.Lts as lts
-use Rattle.moved.proofs.deny.Reads as deny-reads
-use Rattle.moved.proofs.weighed.Reads as weighed-reads
-use Rattle.direct.proofs.direct.Reads as direct-reads
-use Rattle.status_word.proofs.advance.Reads as advance-reads
+use Rattle.isa.specs.Mil1750.{mil1750, contextOf}
+use Rattle.machine.specs.Instructions.{operated}
+use Rattle.machine.specs.State.{joined}
+use Rattle.moved.proofs.ActLaws.{carried-clear, carried-fault, failed}
+use borrow.Author.Needs.{needs}
+use mathlib.Core.Path.{refl, ap, _∙_}
 
 direct-requires : tie.Need-direct-requires
 direct-requires c κs = (c .before .before .before .before .pre .0, c .before .before .before .before .pre .1, c .before .before .before .before .pre .2, c .before .before .before .before .pre .3, c .before .before .before .before .pre .4, c .before .before .before .before .pre .5, c .before .before .before .before .pre .6)
 
-weighed-requires : tie.Need-weighed-requires
-weighed-requires c κs = search needs
-
-same-length : tie.Need-same-length
-same-length c = search needs
-
 returns : tie.Need-returns
 unfolding operated mil1750 contextOf
 returns c = (λ lag ports. rw (← carried-clear (later lag (joined (c .before .before .before .before .before .before .before .before .before .args .core) (c .before .before .before .before .before .before .before .before .before .args .regs .now))) (c .before .before .before .before .before .before .before .before .before .args .memory .now) (c .before .before .before .before .before .before .before .before .before .args .pages .now) ports (c .before .before .before .before .before .before .before .before .before .args .n) _ _ _ refl refl refl (c .before .before .before .before .direct .ensures .when-clear (c .before .if1 .taken) .admitted), c .before .before .before .before .direct .ensures .by-user) (became-worked lag (joined (c .before .before .before .before .before .before .before .before .before .args .core) (c .before .before .before .before .before .before .before .before .before .args .regs .now)) (c .before .before .before .before .before .before .before .before .before .args .memory .now) (c .before .before .before .before .before .before .before .before .before .args .pages .now) ports (c .before .before .before .before .before .before .before .before .before .args .n) _ _ _ _ (c .before .before .before .before .direct .ensures .when-clear (c .before .if1 .taken) .worked) (c .weighed .ensures .3 _ _)), settled-by (c .before .before .before .before .before .before .before .before .before .args .core) _ _ (c .before .before .before .before .before .before .before .before .before .args .regs .now) _ _ (c .weighed .ensures .1) (c .weighed .ensures .2) (c .weighed .ensures .0) (c .before .before .before .before .direct .ensures .when-clear (c .before .if1 .taken) .worked .state-is))
-
-advance-requires : tie.Need-advance-requires
-advance-requires c κs = search needs
-
-deny-requires : tie.Need-deny-requires
-deny-requires c κs = search needs
-
-same-length-2 : tie.Need-same-length-2
-same-length-2 c = search needs
 
 returns-2 : tie.Need-returns-2
 unfolding operated mil1750 contextOf
@@ -45,12 +25,5 @@ returns-2 c = let k = c .before .before .before .before .before .before .direct 
 pub carry-direct-spec : {M : Type 1} → statement M
 carry-direct-spec =
     tie.close
-    (tie.spec
-    direct-requires
-    weighed-requires
-    same-length
-    returns
-    advance-requires
-    deny-requires
-    same-length-2
+    (tie.spec direct-requires (λ c κs. search needs) (λ c. search needs) returns (λ c κs. search needs) (λ c κs. search needs) (λ c. search needs)
     returns-2)

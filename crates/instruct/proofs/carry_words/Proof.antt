@@ -1,23 +1,16 @@
+-- Written by tools/prove.py from answers/instruct.py: answer 4ea137dda1db, proof 693bda716789.
 -- `instruct::carry_words` meets its contract. Assumes nothing.
-use mathlib.Core.Path.{_≡_, refl, sym, ap, _∙_}
 use Rattle.clock.specs.Later.{later}
 use Rattle.instruct.proofs.UserLaws.{block-need, became-worked, block-user, settled-by}
-use Rattle.moved.proofs.ActLaws.{carried-clear, carried-fault, failed}
-use Rattle.machine.specs.State.{joined}
-use Rattle.machine.specs.Instructions.{operated}
-use Rattle.isa.specs.Mil1750.{mil1750, contextOf}
-use borrow.Author.Needs.{needs}
+use Rattle.instruct.proofs.carry_words.Reads as reads
 use Rattle.instruct.proofs.carry_words.Statement.{statement}
 use Rattle.instruct.proofs.carry_words.Tie as tie
-use Rattle.instruct.proofs.carry_words.Reads as reads
-use Rattle.instruct.proofs.carry_words.Lts as lts
-use Rattle.spans.proofs.reads.Reads as reads-reads
-use Rattle.spans.proofs.writes.Reads as writes-reads
-use Rattle.block.proofs.block.Reads as block-reads
-use Rattle.moved.proofs.deny.Reads as deny-reads
-use Rattle.instruct.proofs.verify.Reads as verify-reads
-use Rattle.moved.proofs.weighed.Reads as weighed-reads
-use Rattle.status_word.proofs.advance.Reads as advance-reads
+use Rattle.isa.specs.Mil1750.{mil1750, contextOf}
+use Rattle.machine.specs.Instructions.{operated}
+use Rattle.machine.specs.State.{joined}
+use Rattle.moved.proofs.ActLaws.{carried-clear, carried-fault, failed}
+use borrow.Author.Needs.{needs}
+use mathlib.Core.Path.{refl}
 
 reads-requires : tie.Need-reads-requires
 reads-requires c κs = block-need (c .before .before .before .args .n .form) (c .before .before .before .pre .1)
@@ -25,29 +18,8 @@ reads-requires c κs = block-need (c .before .before .before .args .n .form) (c 
 writes-requires : tie.Need-writes-requires
 writes-requires c κs = block-need (c .before .before .before .before .before .args .n .form) (c .before .before .before .before .before .pre .1)
 
-verify-requires : tie.Need-verify-requires
-verify-requires c κs = search needs
-
-enum-told : tie.Need-enum-told
-enum-told c = search needs
-
 block-requires : tie.Need-block-requires
 block-requires c κs = (c .before .before .before .before .before .before .before .before .before .before .before .pre .0, c .before .before .before .before .before .before .before .before .before .before .before .pre .1, c .before .before .before .before .before .before .before .reads .ensures .0, c .before .before .before .before .before .before .before .reads .ensures .1)
-
-weighed-requires : tie.Need-weighed-requires
-weighed-requires c κs = search needs
-
-enum-known-verdict : tie.Need-enum-known-verdict
-enum-known-verdict c = search needs
-
-advance-requires : tie.Need-advance-requires
-advance-requires c κs = search needs
-
-deny-requires : tie.Need-deny-requires
-deny-requires c κs = search needs
-
-same-length : tie.Need-same-length
-same-length c = search needs
 
 returns : tie.Need-returns
 unfolding operated mil1750 contextOf
@@ -60,16 +32,5 @@ returns-2 c = (λ lag ports. rw (c .deny .ensures .0, ← carried-fault (later l
 pub carry-words-spec : {M : Type 1} → statement M
 carry-words-spec =
     tie.close
-    (tie.spec
-    reads-requires
-    writes-requires
-    verify-requires
-    enum-told
-    block-requires
-    weighed-requires
-    enum-known-verdict
-    advance-requires
-    deny-requires
-    same-length
-    returns
-    returns-2)
+    (tie.spec reads-requires writes-requires (λ c κs. search needs) (λ c. search needs) block-requires (λ c κs. search needs) (λ c. search needs)
+    (λ c κs. search needs) (λ c κs. search needs) (λ c. search needs) returns returns-2)

@@ -1,33 +1,10 @@
+-- Written by tools/prove.py from answers/instruct.py: answer 2f3bd699393a, proof 6c0063831a25.
 -- `instruct::verify` meets its contract. Assumes nothing.
-use mathlib.Core.Path.{_≡_, refl, sym, ap, _∙_}
-use Rattle.machine.specs.State.{keyOf, groupOf}
-use Rattle.machine.specs.Instructions.{both}
-use borrow.Author.Needs.{needs}
 use Rattle.instruct.proofs.verify.Statement.{statement}
 use Rattle.instruct.proofs.verify.Tie as tie
-use Rattle.instruct.proofs.verify.Reads as reads
-use Rattle.instruct.proofs.verify.Lts as lts
-use Rattle.status_word.proofs.group_of.Reads as group-of-reads
-use Rattle.status_word.proofs.key_of.Reads as key-of-reads
-use Rattle.page.proofs.lookup.check_span.Reads as check-span-reads
-
-key-of-requires : tie.Need-key-of-requires
-key-of-requires c κs = search needs
-
-group-of-requires : tie.Need-group-of-requires
-group-of-requires c κs = search needs
-
-check-span-requires : tie.Need-check-span-requires
-check-span-requires c κs = search needs
-
-enum-told : tie.Need-enum-told
-enum-told c = search needs
-
-check-span-requires-2 : tie.Need-check-span-requires-2
-check-span-requires-2 c κs = search needs
-
-enum-known-verdict : tie.Need-enum-known-verdict
-enum-known-verdict c = search needs
+use Rattle.machine.specs.Instructions.{both}
+use borrow.Author.Needs.{needs}
+use mathlib.Core.Path.{refl}
 
 returns : tie.Need-returns
 unfolding both
@@ -40,12 +17,5 @@ returns-2 c = rw (← c .before .before .before .before .before .key-of .ensures
 pub verify-spec : {M : Type 1} → statement M
 verify-spec =
     tie.close
-    (tie.spec
-    key-of-requires
-    group-of-requires
-    check-span-requires
-    enum-told
-    check-span-requires-2
-    enum-known-verdict
-    returns
-    returns-2)
+    (tie.spec (λ c κs. search needs) (λ c κs. search needs) (λ c κs. search needs) (λ c. search needs) (λ c κs. search needs) (λ c. search needs)
+    returns returns-2)

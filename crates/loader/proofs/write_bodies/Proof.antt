@@ -1,22 +1,18 @@
+-- Written by tools/prove.py from answers/loader.py: answer 4c8e85aab057, proof d4e3532a40bf.
 -- `loader::write_bodies` meets its contract. Assumes nothing.
 use Prim.Native.Nat.{ℕ, _+_}
-use mathlib.Core.Path.{_≡_, refl, sym, ap, _∙_}
-use mathlib.Core.List.{List}
-use native.Mathlib.Omega.{arith}
-use lib.ListN.{length}
-use Rattle.machine.specs.Machine.{machine}
-use Rattle.machine.proofs.MachineLaws.{became-machine, machine-became}
-use Rattle.image.specs.Image.{countOf, wordsBefore, tableEnd, bodyAt, numberOf, entriesAnswer, withBodies}
 use Rattle.image.proofs.SoundLaws.{entries-within, entries-rest, image-sound}
+use Rattle.image.specs.Image.{countOf, wordsBefore, tableEnd, bodyAt, numberOf, entriesAnswer, withBodies}
 use Rattle.loader.proofs.BodyLaws.{bodies-none, bodies-step, body-next, body-inside, table-inside}
-use borrow.Author.Needs.{needs}
 use Rattle.loader.proofs.write_bodies.Statement.{statement}
 use Rattle.loader.proofs.write_bodies.Tie as tie
-use Rattle.loader.proofs.write_bodies.Reads as reads
-use Rattle.loader.proofs.write_bodies.Lts as lts
-use Rattle.loader.proofs.write_body.Reads as write-body-reads
-use Rattle.image.proofs.table.count.Reads as count-reads
-use Rattle.image.proofs.table.entry_at.Reads as entry-at-reads
+use Rattle.machine.proofs.MachineLaws.{became-machine, machine-became}
+use Rattle.machine.specs.Machine.{machine}
+use borrow.Author.Needs.{needs}
+use lib.ListN.{length}
+use mathlib.Core.List.{List}
+use mathlib.Core.Path.{_≡_, refl, sym, ap, _∙_}
+use native.Mathlib.Omega.{arith}
 
 abbrev Inv-loop : tie.InvT-loop
 Inv-loop image memory₀ pages₀ n t₀ at₀ k₀ left₀ memory pages t at k left = (k + left ≡ countOf image) × (at ≡ bodyAt image k) × (numberOf (entriesAnswer (length memory₀) image left k) ≡ 0) × (length memory ≡ length memory₀) × (length pages ≡ length pages₀) × ((ports : List ℕ) → withBodies image (countOf image) 0 (machine t₀ memory₀ pages₀ ports) ≡ withBodies image left k (machine t memory pages ports))
@@ -76,22 +72,5 @@ returns c = λ ports. machine-became (sym (c .before .loop .inv .5 ports ∙ bod
 pub write-bodies-spec : {M : Type 1} → statement M
 write-bodies-spec =
     tie.close
-    (tie.spec
-    Inv-loop
-    μ-loop
-    count-requires
-    mul-at
-    add-at
-    loop-holds
-    entry-at-requires
-    write-body-requires
-    cast-at
-    mul-at-2
-    add-at-2
-    add-k
-    sub-left
-    loop-less
-    loop-again
-    same-length
-    same-length-2
-    returns)
+    (tie.spec Inv-loop μ-loop count-requires mul-at add-at loop-holds entry-at-requires write-body-requires cast-at mul-at-2 add-at-2 add-k sub-left
+    loop-less loop-again same-length same-length-2 returns)

@@ -1,34 +1,18 @@
+-- Written by tools/prove.py from answers/loader.py: answer 8cbdf3866ff4, proof 4286a31ef92c.
 -- `loader::write_body` meets its contract. Assumes nothing.
 use Rattle.loader.proofs.BodyLaws.{within-memory, within-pages, within-registers, within-control, to-memory, to-pages, to-registers, to-control}
-use borrow.Author.Needs.{needs}
 use Rattle.loader.proofs.write_body.Statement.{statement}
 use Rattle.loader.proofs.write_body.Tie as tie
-use Rattle.loader.proofs.write_body.Reads as reads
-use Rattle.loader.proofs.write_body.Lts as lts
-use Rattle.loader.proofs.write_control.Reads as write-control-reads
-use Rattle.loader.proofs.write_registers.Reads as write-registers-reads
-use Rattle.loader.proofs.write_words.Reads as write-words-reads
-
-cast-start : tie.Need-cast-start
-cast-start c = search needs
-
-cast-n : tie.Need-cast-n
-cast-n c = search needs
+use borrow.Author.Needs.{needs}
 
 write-words-requires : tie.Need-write-words-requires
 write-words-requires c κs = (within-memory _ _ (c .before .before .before .before .before .before .before .before .pre .0) (c .before .if1 .taken), c .before .before .before .before .before .before .before .before .pre .2)
-
-same-length : tie.Need-same-length
-same-length c = search needs
 
 returns : tie.Need-returns
 returns c = λ ports. to-memory _ _ _ _ _ _ _ (c .before .before .before .before .if1 .taken) _ (c .before .before .write-words .ensures)
 
 write-words-requires-2 : tie.Need-write-words-requires-2
 write-words-requires-2 c κs = (rw (c .before .before .before .before .before .before .before .before .before .before .pre .1) (within-pages _ _ (c .before .before .before .before .before .before .before .before .before .before .pre .0) (c .before .before .before .if1 .left) (c .before .if2 .taken)), c .before .before .before .before .before .before .before .before .before .before .pre .2)
-
-same-length-2 : tie.Need-same-length-2
-same-length-2 c = search needs
 
 returns-2 : tie.Need-returns-2
 returns-2 c = λ ports. to-pages _ _ _ _ _ _ _ (c .before .before .before .before .before .before .if1 .left) (c .before .before .before .before .if2 .taken) _ (c .before .before .write-words2 .ensures)
@@ -48,16 +32,5 @@ returns-4 c = λ ports. to-control _ _ _ _ _ _ _ (c .before .before .before .bef
 pub write-body-spec : {M : Type 1} → statement M
 write-body-spec =
     tie.close
-    (tie.spec
-    cast-start
-    cast-n
-    write-words-requires
-    same-length
-    returns
-    write-words-requires-2
-    same-length-2
-    returns-2
-    write-registers-requires
-    returns-3
-    write-control-requires
-    returns-4)
+    (tie.spec (λ c. search needs) (λ c. search needs) write-words-requires (λ c. search needs) returns write-words-requires-2 (λ c. search needs)
+    returns-2 write-registers-requires returns-3 write-control-requires returns-4)

@@ -1,14 +1,12 @@
+-- Written by tools/prove.py from answers/loader.py: answer d2697ff36247, proof fec1d4e0dd61.
 -- `loader::write_registers` meets its contract. Assumes nothing.
-use mathlib.Core.Path.{_≡_, refl}
-use native.Mathlib.Omega.{arith}
-use lib.ListN.{length}
-use Rattle.machine.specs.State.{withRegs}
-use borrow.Author.Needs.{needs}
 use Rattle.loader.proofs.write_registers.Statement.{statement}
 use Rattle.loader.proofs.write_registers.Tie as tie
-use Rattle.loader.proofs.write_registers.Reads as reads
-use Rattle.loader.proofs.write_registers.Lts as lts
-use Rattle.loader.proofs.write_words.Reads as write-words-reads
+use Rattle.machine.specs.State.{withRegs}
+use borrow.Author.Needs.{needs}
+use lib.ListN.{length}
+use mathlib.Core.Path.{_≡_, refl}
+use native.Mathlib.Omega.{arith}
 
 slice-aggregate-write-words : tie.Need-slice-aggregate-write-words
 slice-aggregate-write-words c = search needs
@@ -21,5 +19,4 @@ unfolding withRegs
 returns c = rw (c .before .write-words .ensures) refl
 
 pub write-registers-spec : {M : Type 1} → statement M
-write-registers-spec =
-    tie.close (tie.spec slice-aggregate-write-words write-words-requires returns)
+write-registers-spec = tie.close (tie.spec slice-aggregate-write-words write-words-requires returns)

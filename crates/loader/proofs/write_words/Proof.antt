@@ -1,17 +1,14 @@
+-- Written by tools/prove.py from answers/loader.py: answer 87b3f55aff2c, proof 3425b96268db.
 -- `loader::write_words` meets its contract. Assumes nothing.
 use Prim.Native.Nat.{_+_, _*_, _≤_}
-use mathlib.Core.Path.{_≡_, refl, sym, _∙_}
-use native.Mathlib.Omega.{arith}
-use lib.ListN.{length, length-set}
-use lib.Seq.{sets}
 use Rattle.image.specs.Image.{wordsFrom}
 use Rattle.loader.proofs.BodyLaws.{words-none, words-step}
-use borrow.Author.Needs.{needs}
 use Rattle.loader.proofs.write_words.Statement.{statement}
 use Rattle.loader.proofs.write_words.Tie as tie
-use Rattle.loader.proofs.write_words.Reads as reads
-use Rattle.loader.proofs.write_words.Lts as lts
-use Rattle.image.proofs.table.word_at.Reads as word-at-reads
+use lib.ListN.{length, length-set}
+use lib.Seq.{sets}
+use mathlib.Core.Path.{_≡_, refl, sym, _∙_}
+use native.Mathlib.Omega.{arith}
 
 abbrev Inv-loop : tie.InvT-loop
 Inv-loop words₀ start image at n i₀ from₀ left₀ words i from left = (length words ≡ length words₀) × (i + left ≤ length words₀) × (from + 2 * left ≤ length image) × (sets words₀ start (wordsFrom image at n) ≡ sets words i (wordsFrom image from left))
@@ -55,17 +52,4 @@ returns c = sym (c .before .loop .inv .3 ∙ words-none _ _ _ _ _ (c .loop-test 
 pub write-words-spec : {M : Type 1} → statement M
 write-words-spec =
     tie.close
-    (tie.spec
-    Inv-loop
-    μ-loop
-    loop-holds
-    word-at-requires
-    mul-words
-    slice-write-words
-    add-i
-    add-from
-    sub-left
-    loop-less
-    loop-again
-    same-length
-    returns)
+    (tie.spec Inv-loop μ-loop loop-holds word-at-requires mul-words slice-write-words add-i add-from sub-left loop-less loop-again same-length returns)

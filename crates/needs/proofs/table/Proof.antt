@@ -1,12 +1,10 @@
+-- Written by tools/prove.py from answers/needs.py: answer 91bae912bbbf, proof df8ea7561a57.
 -- `needs::table` meets its contract. Assumes nothing.
-use Rattle.needs.specs.Needs.{exceptions, wayOf, needOf, allNeeds}
 use Rattle.isa.specs.Accesses.{wordsMoved, wordsOfInteger, wordsOfFloat, wordsRead, wordsWritten}
-use mathlib.Core.Path.{_≡_, refl, sym, ap, _∙_}
-use borrow.Author.Needs.{needs}
 use Rattle.needs.proofs.table.Statement.{statement}
 use Rattle.needs.proofs.table.Tie as tie
-use Rattle.needs.proofs.table.Reads as reads
-use Rattle.needs.proofs.table.Lts as lts
+use Rattle.needs.specs.Needs.{exceptions, wayOf, needOf, allNeeds}
+use mathlib.Core.Path.{refl}
 
 returns : tie.Need-returns
 unfolding allNeeds needOf exceptions wayOf wordsRead wordsMoved wordsOfFloat wordsOfInteger wordsWritten

@@ -1,16 +1,11 @@
+-- Written by tools/prove.py from answers/needs.py: answer c305e25696c9, proof 8cde75c0fc35.
 -- `needs::write_count` meets its contract. Assumes nothing.
-use native.Mathlib.Omega.{arith}
 use Rattle.needs.proofs.NeedsLaws.{register-written, operand-written}
-use mathlib.Core.Path.{_≡_, refl, sym, ap, _∙_}
-use borrow.Author.Needs.{needs}
 use Rattle.needs.proofs.write_count.Statement.{statement}
 use Rattle.needs.proofs.write_count.Tie as tie
-use Rattle.needs.proofs.write_count.Reads as reads
-use Rattle.needs.proofs.write_count.Lts as lts
-use Rattle.access.proofs.addressing.in_memory.Reads as in-memory-reads
-
-in-memory-requires : tie.Need-in-memory-requires
-in-memory-requires c κs = search needs
+use borrow.Author.Needs.{needs}
+use mathlib.Core.Path.{refl}
+use native.Mathlib.Omega.{arith}
 
 returns : tie.Need-returns
 returns c = (λ regs p. rw (operand-written regs (c .before .before .before .before .args .n) (c .before .before .before .before .args .need) (c .before .before .before .before .pre) p (λ q. omega (arith, q, c .before .before .before .if1 .taken)), ← c .before .in-memory .ensures, c .if2 .taken) refl, omega arith)
@@ -22,4 +17,4 @@ returns-3 : tie.Need-returns-3
 returns-3 c = (λ regs p. rw (register-written regs (c .before .args .n) (c .before .args .need) (c .before .pre) p (omega (arith, c .if1 .left))) refl, omega arith)
 
 pub write-count-spec : {M : Type 1} → statement M
-write-count-spec = tie.close (tie.spec in-memory-requires returns returns-2 returns-3)
+write-count-spec = tie.close (tie.spec (λ c κs. search needs) returns returns-2 returns-3)

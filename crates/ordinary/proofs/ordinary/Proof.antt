@@ -1,89 +1,13 @@
+-- Written by tools/prove.py from answers/ordinary.py: answer fdfeecf57637, proof 8f59d606b37b.
 -- `ordinary::ordinary` meets its contract. Assumes nothing.
-use mathlib.Core.Path.{_≡_, refl, sym, ap, _∙_}
-use native.Mathlib.Omega.{arith}
-use Rattle.ordinary.proofs.OrdinaryLaws.{in-range, past-all}
 use Rattle.decode.specs.Forms.{operationOf}
 use Rattle.effect.specs.Work.{context}
-use borrow.Author.Needs.{needs}
+use Rattle.ordinary.proofs.OrdinaryLaws.{in-range, past-all}
 use Rattle.ordinary.proofs.ordinary.Statement.{statement}
 use Rattle.ordinary.proofs.ordinary.Tie as tie
-use Rattle.ordinary.proofs.ordinary.Reads as reads
-use Rattle.ordinary.proofs.ordinary.Lts as lts
-use Rattle.effect.proofs.shapes.nothing.Reads as nothing-reads
-use Rattle.execute_floats.proofs.float_operation.Reads as float-operation-reads
-use Rattle.execute_integers.proofs.integer_operation.Reads as integer-operation-reads
-use Rattle.execute_integers.proofs.logical_operation.Reads as logical-operation-reads
-use Rattle.execute_bits.proofs.bit.bit_operation.Reads as bit-operation-reads
-use Rattle.execute_words.proofs.jumps.jump_operation.Reads as jump-operation-reads
-use Rattle.execute_words.proofs.loads.load_operation.Reads as load-operation-reads
-use Rattle.execute_bits.proofs.shifts.shift_operation.Reads as shift-operation-reads
-use Rattle.execute_words.proofs.stores.store_operation.Reads as store-operation-reads
-
-bit-operation-requires : tie.Need-bit-operation-requires
-bit-operation-requires c κs = search needs
-
-bit-operation-requires-2 : tie.Need-bit-operation-requires-2
-bit-operation-requires-2 c κs = search needs
-
-shift-operation-requires : tie.Need-shift-operation-requires
-shift-operation-requires c κs = search needs
-
-shift-operation-requires-2 : tie.Need-shift-operation-requires-2
-shift-operation-requires-2 c κs = search needs
-
-jump-operation-requires : tie.Need-jump-operation-requires
-jump-operation-requires c κs = search needs
-
-load-operation-requires : tie.Need-load-operation-requires
-load-operation-requires c κs = search needs
-
-load-operation-requires-2 : tie.Need-load-operation-requires-2
-load-operation-requires-2 c κs = search needs
-
-store-operation-requires : tie.Need-store-operation-requires
-store-operation-requires c κs = search needs
-
-store-operation-requires-2 : tie.Need-store-operation-requires-2
-store-operation-requires-2 c κs = search needs
-
-integer-operation-requires : tie.Need-integer-operation-requires
-integer-operation-requires c κs = search needs
-
-float-operation-requires : tie.Need-float-operation-requires
-float-operation-requires c κs = search needs
-
-integer-operation-requires-2 : tie.Need-integer-operation-requires-2
-integer-operation-requires-2 c κs = search needs
-
-float-operation-requires-2 : tie.Need-float-operation-requires-2
-float-operation-requires-2 c κs = search needs
-
-integer-operation-requires-3 : tie.Need-integer-operation-requires-3
-integer-operation-requires-3 c κs = search needs
-
-float-operation-requires-3 : tie.Need-float-operation-requires-3
-float-operation-requires-3 c κs = search needs
-
-integer-operation-requires-4 : tie.Need-integer-operation-requires-4
-integer-operation-requires-4 c κs = search needs
-
-float-operation-requires-4 : tie.Need-float-operation-requires-4
-float-operation-requires-4 c κs = search needs
-
-logical-operation-requires : tie.Need-logical-operation-requires
-logical-operation-requires c κs = search needs
-
-float-operation-requires-5 : tie.Need-float-operation-requires-5
-float-operation-requires-5 c κs = search needs
-
-logical-operation-requires-2 : tie.Need-logical-operation-requires-2
-logical-operation-requires-2 c κs = search needs
-
-float-operation-requires-6 : tie.Need-float-operation-requires-6
-float-operation-requires-6 c κs = search needs
-
-nothing-requires : tie.Need-nothing-requires
-nothing-requires c κs = search needs
+use borrow.Author.Needs.{needs}
+use mathlib.Core.Path.{refl, _∙_}
+use native.Mathlib.Omega.{arith}
 
 returns : tie.Need-returns
 returns c = c .bit-operation .ensures ∙ in-range (context (c .before .before .before .before .before .args .regs .now) (c .before .before .before .before .before .args .ic) (c .before .before .before .before .before .args .sw) (c .before .before .before .before .before .args .pi)) (c .before .before .before .before .before .args .n) (c .before .before .before .before .before .args .x) (c .before .before .before .before .before .args .y) (c .before .before .before .before .before .args .z) (operationOf (c .before .before .before .before .before .args .n .form)) 0 0 6 refl (omega arith) (omega arith)
@@ -154,48 +78,9 @@ returns-22 c = c .nothing .ensures (c .before .before .before .before .before .b
 pub ordinary-spec : {M : Type 1} → statement M
 ordinary-spec =
     tie.close
-    (tie.spec
-    bit-operation-requires
-    bit-operation-requires-2
-    shift-operation-requires
-    shift-operation-requires-2
-    jump-operation-requires
-    load-operation-requires
-    load-operation-requires-2
-    store-operation-requires
-    store-operation-requires-2
-    integer-operation-requires
-    float-operation-requires
-    integer-operation-requires-2
-    float-operation-requires-2
-    integer-operation-requires-3
-    float-operation-requires-3
-    integer-operation-requires-4
-    float-operation-requires-4
-    logical-operation-requires
-    float-operation-requires-5
-    logical-operation-requires-2
-    float-operation-requires-6
-    nothing-requires
-    returns
-    returns-2
-    returns-3
-    returns-4
-    returns-5
-    returns-6
-    returns-7
-    returns-8
-    returns-9
-    returns-10
-    returns-11
-    returns-12
-    returns-13
-    returns-14
-    returns-15
-    returns-16
-    returns-17
-    returns-18
-    returns-19
-    returns-20
-    returns-21
-    returns-22)
+    (tie.spec (λ c κs. search needs) (λ c κs. search needs) (λ c κs. search needs) (λ c κs. search needs) (λ c κs. search needs) (λ c κs. search needs)
+    (λ c κs. search needs) (λ c κs. search needs) (λ c κs. search needs) (λ c κs. search needs) (λ c κs. search needs) (λ c κs. search needs)
+    (λ c κs. search needs) (λ c κs. search needs) (λ c κs. search needs) (λ c κs. search needs) (λ c κs. search needs) (λ c κs. search needs)
+    (λ c κs. search needs) (λ c κs. search needs) (λ c κs. search needs) (λ c κs. search needs) returns returns-2 returns-3 returns-4 returns-5
+    returns-6 returns-7 returns-8 returns-9 returns-10 returns-11 returns-12 returns-13 returns-14 returns-15 returns-16 returns-17 returns-18
+    returns-19 returns-20 returns-21 returns-22)

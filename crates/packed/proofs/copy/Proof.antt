@@ -1,12 +1,10 @@
+-- Written by tools/prove.py from answers/packed.py: answer 6662efc27ae3, proof a550c8fc5ab6.
 -- `packed::copy` meets its contract. Assumes nothing.
 use Prim.Native.Nat.{_-_}
-use native.Mathlib.Omega.{arith}
 use Rattle.packed.proofs.PackLaws.{Copied, copied-none, copied-more, copied-all}
-use borrow.Author.Needs.{needs}
 use Rattle.packed.proofs.copy.Statement.{statement}
 use Rattle.packed.proofs.copy.Tie as tie
-use Rattle.packed.proofs.copy.Reads as reads
-use Rattle.packed.proofs.copy.Lts as lts
+use native.Mathlib.Omega.{arith}
 
 abbrev Inv-loop : tie.InvT-loop
 Inv-loop to₀ at from i₀ to i = Copied to₀ at from to i
@@ -50,17 +48,4 @@ returns c = copied-all (c .before .loop .inv) (c .loop-test .left)
 pub copy-spec : {M : Type 1} → statement M
 copy-spec =
     tie.close
-    (tie.spec
-    Inv-loop
-    μ-loop
-    loop-holds
-    mul-to
-    shared-slice-read-to
-    add-to
-    mul-to-2
-    slice-write-to
-    add-i
-    loop-less
-    loop-again
-    same-length
-    returns)
+    (tie.spec Inv-loop μ-loop loop-holds mul-to shared-slice-read-to add-to mul-to-2 slice-write-to add-i loop-less loop-again same-length returns)

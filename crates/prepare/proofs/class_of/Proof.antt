@@ -1,14 +1,11 @@
+-- Written by tools/prove.py from answers/prepare.py: answer c15cda8693e4, proof 455b5459f8e3.
 -- `prepare::class_of` meets its contract. Assumes nothing.
-use mathlib.Core.Path.{_≡_, refl, sym, ap, _∙_}
-use borrow.Author.Tests.{eq-eqb, ne-eqb}
-use native.Mathlib.Omega.{arith}
-use Rattle.isa.specs.Mil1750.{classOf}
 use Rattle.decode.specs.Forms.{privilegedOperations}
-use borrow.Author.Needs.{needs}
+use Rattle.isa.specs.Mil1750.{classOf}
 use Rattle.prepare.proofs.class_of.Statement.{statement}
 use Rattle.prepare.proofs.class_of.Tie as tie
-use Rattle.prepare.proofs.class_of.Reads as reads
-use Rattle.prepare.proofs.class_of.Lts as lts
+use borrow.Author.Tests.{ne-eqb}
+use native.Mathlib.Omega.{arith}
 
 returns : tie.Need-returns
 unfolding classOf privilegedOperations

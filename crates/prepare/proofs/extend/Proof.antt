@@ -1,31 +1,12 @@
+-- Written by tools/prove.py from answers/prepare.py: answer 9b4e3c0c55e3, proof 8e932177c48c.
 -- `prepare::extend` meets its contract. Assumes nothing.
-use mathlib.Core.Path.{_≡_, refl, sym, ap, _∙_}
-use Rattle.prepare.proofs.PrepareLaws.{granted-second}
 use Rattle.machine.specs.Instructions.{extended}
 use Rattle.machine.specs.State.{advanced}
-use borrow.Author.Needs.{needs}
+use Rattle.prepare.proofs.PrepareLaws.{granted-second}
 use Rattle.prepare.proofs.extend.Statement.{statement}
 use Rattle.prepare.proofs.extend.Tie as tie
-use Rattle.prepare.proofs.extend.Reads as reads
-use Rattle.prepare.proofs.extend.Lts as lts
-use Rattle.status_word.proofs.advance.Reads as advance-reads
-use Rattle.prepare.proofs.derive.Reads as derive-reads
-use Rattle.prepare.proofs.second_word.Reads as second-word-reads
-
-second-word-requires : tie.Need-second-word-requires
-second-word-requires c κs = search needs
-
-enum-known-second : tie.Need-enum-known-second
-enum-known-second c = search needs
-
-derive-requires : tie.Need-derive-requires
-derive-requires c κs = search needs
-
-enum-known-second-2 : tie.Need-enum-known-second-2
-enum-known-second-2 c = search needs
-
-advance-requires : tie.Need-advance-requires
-advance-requires c κs = search needs
+use borrow.Author.Needs.{needs}
+use mathlib.Core.Path.{refl}
 
 returns : tie.Need-returns
 unfolding extended advanced
@@ -38,11 +19,4 @@ returns-2 c = rw (granted-second _ _ _ _ _ _, ← c .before .before .before .bef
 pub extend-spec : {M : Type 1} → statement M
 extend-spec =
     tie.close
-    (tie.spec
-    second-word-requires
-    enum-known-second
-    derive-requires
-    enum-known-second-2
-    advance-requires
-    returns
-    returns-2)
+    (tie.spec (λ c κs. search needs) (λ c. search needs) (λ c κs. search needs) (λ c. search needs) (λ c κs. search needs) returns returns-2)

@@ -1,11 +1,9 @@
+-- Written by tools/prove.py from answers/prepare.py: answer 1cd3c7bf6b01, proof 8f642ef2ea5c.
 -- `prepare::ready` meets its contract. Assumes nothing.
-use mathlib.Core.Path.{_≡_, refl, sym, ap, _∙_}
 use Rattle.machine.specs.Instructions.{readyAt}
-use borrow.Author.Needs.{needs}
 use Rattle.prepare.proofs.ready.Statement.{statement}
 use Rattle.prepare.proofs.ready.Tie as tie
-use Rattle.prepare.proofs.ready.Reads as reads
-use Rattle.prepare.proofs.ready.Lts as lts
+use mathlib.Core.Path.{refl}
 
 returns : tie.Need-returns
 unfolding readyAt

@@ -1,26 +1,16 @@
+-- Written by tools/prove.py from answers/prepare.py: answer 5de3c9354765, proof 139522c75445.
 -- `prepare::second_word` meets its contract. Assumes nothing.
-use mathlib.Core.Path.{_≡_, refl, sym, ap, _∙_}
 use Prim.Native.Nat.{_+_}
-use lib.ListN.{length}
-use borrow.Author.Tests.{eq-eqb, ne-eqb}
-use borrow.Author.Tests.{lt-ltb, le-ltb}
-use native.Mathlib.Omega.{arith}
-use Rattle.page.proofs.ReachLaws.{located-inside}
 use Rattle.page.proofs.NearLaws.{lookup-next}
+use Rattle.page.proofs.ReachLaws.{located-inside}
 use Rattle.page.specs.Spans.{gotAt}
-use borrow.Author.Needs.{needs}
 use Rattle.prepare.proofs.second_word.Statement.{statement}
 use Rattle.prepare.proofs.second_word.Tie as tie
-use Rattle.prepare.proofs.second_word.Reads as reads
-use Rattle.prepare.proofs.second_word.Lts as lts
-use Rattle.status_word.proofs.advance.Reads as advance-reads
-use Rattle.storage.proofs.read.read_word.Reads as read-word-reads
-
-advance-requires : tie.Need-advance-requires
-advance-requires c κs = search needs
-
-read-word-requires : tie.Need-read-word-requires
-read-word-requires c κs = search needs
+use borrow.Author.Needs.{needs}
+use borrow.Author.Tests.{eq-eqb, ne-eqb, lt-ltb, le-ltb}
+use lib.ListN.{length}
+use mathlib.Core.Path.{refl, sym}
+use native.Mathlib.Omega.{arith}
 
 returns : tie.Need-returns
 unfolding gotAt
@@ -28,12 +18,6 @@ returns c = rw (eq-eqb _ _ (c .before .before .before .if1 .taken), ← c .befor
 
 add-next : tie.Need-add-next
 add-next c = omega (arith, located-inside _ _ _ _ _ _ _ _ (sym (c .before .before .before .before .pre .2)) refl)
-
-mul-t16 : tie.Need-mul-t16
-mul-t16 c = search needs
-
-shared-slice-read-t18 : tie.Need-shared-slice-read-t18
-shared-slice-read-t18 c = search needs
 
 returns-2 : tie.Need-returns-2
 unfolding gotAt
@@ -50,13 +34,4 @@ returns-4 c = rw (ne-eqb _ _ (c .if1 .left))
 pub second-word-spec : {M : Type 1} → statement M
 second-word-spec =
     tie.close
-    (tie.spec
-    advance-requires
-    read-word-requires
-    returns
-    add-next
-    mul-t16
-    shared-slice-read-t18
-    returns-2
-    returns-3
-    returns-4)
+    (tie.spec (λ c κs. search needs) (λ c κs. search needs) returns add-next (λ c. search needs) (λ c. search needs) returns-2 returns-3 returns-4)

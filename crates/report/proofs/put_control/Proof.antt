@@ -1,29 +1,11 @@
+-- Written by tools/prove.py from answers/report.py: answer da7fcd05270d, proof 8a3875239061.
 -- `report::put_control` meets its contract. Assumes nothing.
-use native.Mathlib.Omega.{arith}
-use mathlib.Core.Path.{_≡_, refl, sym, ap, _∙_}
 use Rattle.report.proofs.WroteLaws.{then}
-use Rattle.report.specs.Report.{controlLine}
-use borrow.Author.Needs.{needs}
 use Rattle.report.proofs.put_control.Statement.{statement}
 use Rattle.report.proofs.put_control.Tie as tie
-use Rattle.report.proofs.put_control.Reads as reads
-use Rattle.report.proofs.put_control.Lts as lts
-use Rattle.report.proofs.put_named.Reads as put-named-reads
-
-put-named-requires : tie.Need-put-named-requires
-put-named-requires c κs = search needs
-
-put-named-requires-2 : tie.Need-put-named-requires-2
-put-named-requires-2 c κs = search needs
-
-put-named-requires-3 : tie.Need-put-named-requires-3
-put-named-requires-3 c κs = search needs
-
-put-named-requires-4 : tie.Need-put-named-requires-4
-put-named-requires-4 c κs = search needs
-
-put-named-requires-5 : tie.Need-put-named-requires-5
-put-named-requires-5 c κs = search needs
+use Rattle.report.specs.Report.{controlLine}
+use borrow.Author.Needs.{needs}
+use native.Mathlib.Omega.{arith}
 
 returns : tie.Need-returns
 unfolding controlLine
@@ -32,10 +14,4 @@ returns c = (then (c .before .before .before .before .before .before .before .be
 pub put-control-spec : {M : Type 1} → statement M
 put-control-spec =
     tie.close
-    (tie.spec
-    put-named-requires
-    put-named-requires-2
-    put-named-requires-3
-    put-named-requires-4
-    put-named-requires-5
-    returns)
+    (tie.spec (λ c κs. search needs) (λ c κs. search needs) (λ c κs. search needs) (λ c κs. search needs) (λ c κs. search needs) returns)

@@ -1,15 +1,12 @@
+-- Written by tools/prove.py from answers/report.py: answer ff69adeeb5fa, proof b0824236dced.
 -- `report::put_registers` meets its contract. Assumes nothing.
-use native.Mathlib.Omega.{arith}
 use Prim.Native.Nat.{_+_, _*_, _-_, _≤_}
-use mathlib.Core.Path.{_≡_, refl, sym, ap, _∙_}
-use Rattle.report.specs.Report.{registers, Wrote}
 use Rattle.report.proofs.WroteLaws.{wrote-none, registers-more, registers-all}
-use borrow.Author.Needs.{needs}
 use Rattle.report.proofs.put_registers.Statement.{statement}
 use Rattle.report.proofs.put_registers.Tie as tie
-use Rattle.report.proofs.put_registers.Reads as reads
-use Rattle.report.proofs.put_registers.Lts as lts
-use Rattle.report.proofs.put_register.Reads as put-register-reads
+use Rattle.report.specs.Report.{registers, Wrote}
+use mathlib.Core.Path.{_≡_}
+use native.Mathlib.Omega.{arith}
 
 abbrev Inv-loop : tie.InvT-loop
 Inv-loop out₀ at regs first to₀ n₀ out to n = (n ≤ 8) × (Wrote out₀ at (registers regs first n) out to) × (to ≡ at + 5 * n)
@@ -48,15 +45,5 @@ returns c = (registers-all _ _ (c .before .loop .n) (omega arith) (c .before .lo
 pub put-registers-spec : {M : Type 1} → statement M
 put-registers-spec =
     tie.close
-    (tie.spec
-    Inv-loop
-    μ-loop
-    loop-holds
-    add-put-register
-    mul-put-register
-    element-copy-out-put-register
-    put-register-requires
-    add-n
-    loop-less
-    loop-again
-    returns)
+    (tie.spec Inv-loop μ-loop loop-holds add-put-register mul-put-register element-copy-out-put-register put-register-requires add-n loop-less
+    loop-again returns)

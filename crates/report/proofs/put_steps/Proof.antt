@@ -1,28 +1,11 @@
+-- Written by tools/prove.py from answers/report.py: answer 37792b7bc5af, proof d8327623fdbf.
 -- `report::put_steps` meets its contract. Assumes nothing.
-use native.Mathlib.Omega.{arith}
-use mathlib.Core.Path.{_≡_, refl, sym, ap, _∙_}
 use Rattle.report.proofs.WroteLaws.{then}
-use Rattle.report.specs.Report.{stepsLine}
-use borrow.Author.Needs.{needs}
 use Rattle.report.proofs.put_steps.Statement.{statement}
 use Rattle.report.proofs.put_steps.Tie as tie
-use Rattle.report.proofs.put_steps.Reads as reads
-use Rattle.report.proofs.put_steps.Lts as lts
-use Rattle.report.proofs.text.put.Reads as put-reads
-use Rattle.report.proofs.text.put_bytes.Reads as put-bytes-reads
-use Rattle.report.proofs.text.put_decimal.Reads as put-decimal-reads
-
-slice-aggregate-put-bytes : tie.Need-slice-aggregate-put-bytes
-slice-aggregate-put-bytes c = search needs
-
-put-bytes-requires : tie.Need-put-bytes-requires
-put-bytes-requires c κs = search needs
-
-put-decimal-requires : tie.Need-put-decimal-requires
-put-decimal-requires c κs = search needs
-
-put-requires : tie.Need-put-requires
-put-requires c κs = search needs
+use Rattle.report.specs.Report.{stepsLine}
+use borrow.Author.Needs.{needs}
+use native.Mathlib.Omega.{arith}
 
 returns : tie.Need-returns
 unfolding stepsLine
@@ -31,9 +14,4 @@ returns c = (then (c .before .before .before .before .put-bytes .ensures .0) (th
 pub put-steps-spec : {M : Type 1} → statement M
 put-steps-spec =
     tie.close
-    (tie.spec
-    slice-aggregate-put-bytes
-    put-bytes-requires
-    put-decimal-requires
-    put-requires
-    returns)
+    (tie.spec (λ c. search needs) (λ c κs. search needs) (λ c κs. search needs) (λ c κs. search needs) returns)

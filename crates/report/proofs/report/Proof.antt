@@ -1,27 +1,10 @@
+-- Written by tools/prove.py from answers/report.py: answer 61a31818f55b, proof 63ca34a4b742.
 -- `report::report` meets its contract. Assumes nothing.
-use native.Mathlib.Omega.{arith}
 use Rattle.report.proofs.WroteLaws.{then, whole}
-use Rattle.report.specs.Report.{reportOf}
-use borrow.Author.Needs.{needs}
 use Rattle.report.proofs.report.Statement.{statement}
 use Rattle.report.proofs.report.Tie as tie
-use Rattle.report.proofs.report.Reads as reads
-use Rattle.report.proofs.report.Lts as lts
-use Rattle.report.proofs.put_control.Reads as put-control-reads
-use Rattle.report.proofs.put_line.Reads as put-line-reads
-use Rattle.report.proofs.put_steps.Reads as put-steps-reads
-
-put-steps-requires : tie.Need-put-steps-requires
-put-steps-requires c κs = search needs
-
-put-control-requires : tie.Need-put-control-requires
-put-control-requires c κs = search needs
-
-put-line-requires : tie.Need-put-line-requires
-put-line-requires c κs = search needs
-
-put-line-requires-2 : tie.Need-put-line-requires-2
-put-line-requires-2 c κs = search needs
+use Rattle.report.specs.Report.{reportOf}
+use borrow.Author.Needs.{needs}
 
 returns : tie.Need-returns
 unfolding reportOf
@@ -30,9 +13,4 @@ returns c = whole (then (c .before .before .before .before .before .before .befo
 pub report-spec : {M : Type 1} → statement M
 report-spec =
     tie.close
-    (tie.spec
-    put-steps-requires
-    put-control-requires
-    put-line-requires
-    put-line-requires-2
-    returns)
+    (tie.spec (λ c κs. search needs) (λ c κs. search needs) (λ c κs. search needs) (λ c κs. search needs) returns)

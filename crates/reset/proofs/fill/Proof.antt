@@ -1,16 +1,14 @@
+-- Written by tools/prove.py from answers/reset.py: answer 2d4b617ea0f8, proof a01f6229f082.
 -- `reset::fill` meets its contract. Assumes nothing.
 use Prim.Native.Nat.{_-_, _%_}
-use mathlib.Core.Path.{refl}
-use native.Mathlib.Omega.{arith}
-use native.Mathlib.Nat.{mod-lt}
-use lib.ListN.{length}
-use Rattle.reset.specs.Reset.{cycle}
 use Rattle.reset.proofs.FillLaws.{Filled, filled-none, filled-length, filled-more, filled-all}
-use borrow.Author.Needs.{needs}
 use Rattle.reset.proofs.fill.Statement.{statement}
 use Rattle.reset.proofs.fill.Tie as tie
-use Rattle.reset.proofs.fill.Reads as reads
-use Rattle.reset.proofs.fill.Lts as lts
+use Rattle.reset.specs.Reset.{cycle}
+use lib.ListN.{length}
+use mathlib.Core.Path.{refl}
+use native.Mathlib.Nat.{mod-lt}
+use native.Mathlib.Omega.{arith}
 
 abbrev Inv-loop : tie.InvT-loop
 Inv-loop words₀ period i₀ words i = Filled (λ k. k % period) words₀ i words
@@ -53,16 +51,4 @@ returns c = filled-all _ _ _ _ (c .before .loop .inv) (c .loop-test .left)
 pub fill-spec : {M : Type 1} → statement M
 fill-spec =
     tie.close
-    (tie.spec
-    Inv-loop
-    μ-loop
-    loop-holds
-    rem-words
-    cast-words
-    mul-words
-    slice-write-words
-    add-i
-    loop-less
-    loop-again
-    same-length
-    returns)
+    (tie.spec Inv-loop μ-loop loop-holds rem-words cast-words mul-words slice-write-words add-i loop-less loop-again same-length returns)

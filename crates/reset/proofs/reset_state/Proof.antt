@@ -1,11 +1,9 @@
+-- Written by tools/prove.py from answers/reset.py: answer 325ecebc6642, proof 2b3bd259b62f.
 -- `reset::reset_state` meets its contract. Assumes nothing.
-use mathlib.Core.Path.{refl}
-use Rattle.reset.specs.Reset.{resetState}
-use borrow.Author.Needs.{needs}
 use Rattle.reset.proofs.reset_state.Statement.{statement}
 use Rattle.reset.proofs.reset_state.Tie as tie
-use Rattle.reset.proofs.reset_state.Reads as reads
-use Rattle.reset.proofs.reset_state.Lts as lts
+use Rattle.reset.specs.Reset.{resetState}
+use mathlib.Core.Path.{refl}
 
 returns : tie.Need-returns
 unfolding resetState

@@ -1,25 +1,11 @@
+-- Written by tools/prove.py from answers/spans.py: answer d1c428b4bee7, proof 3424f66bb036.
 -- `spans::popped_span` meets its contract. Assumes nothing.
 use Rattle.isa.specs.Accesses.{poppedSpan}
-use native.Mathlib.Omega.{arith}
-use mathlib.Core.Path.{_≡_, refl, sym, ap, _∙_}
-use borrow.Author.Needs.{needs}
 use Rattle.spans.proofs.popped_span.Statement.{statement}
 use Rattle.spans.proofs.popped_span.Tie as tie
-use Rattle.spans.proofs.popped_span.Reads as reads
-use Rattle.spans.proofs.popped_span.Lts as lts
-use Rattle.access.proofs.fields.field_a.Reads as field-a-reads
-use Rattle.access.proofs.fields.field_b.Reads as field-b-reads
-use Rattle.access.proofs.fields.get.Reads as get-reads
-use Rattle.access.proofs.fields.registers_from.Reads as registers-from-reads
-
-field-a-requires : tie.Need-field-a-requires
-field-a-requires c κs = search needs
-
-get-requires : tie.Need-get-requires
-get-requires c κs = search needs
-
-field-b-requires : tie.Need-field-b-requires
-field-b-requires c κs = search needs
+use borrow.Author.Needs.{needs}
+use mathlib.Core.Path.{refl}
+use native.Mathlib.Omega.{arith}
 
 registers-from-requires : tie.Need-registers-from-requires
 registers-from-requires c κs = (c .before .before .field-a .ensures .1, c .field-b .ensures .1)
@@ -34,10 +20,4 @@ returns c = (rw (← c .before .before .before .field-a .ensures .0, ← c .befo
 pub popped-span-spec : {M : Type 1} → statement M
 popped-span-spec =
     tie.close
-    (tie.spec
-    field-a-requires
-    get-requires
-    field-b-requires
-    registers-from-requires
-    sub-t7
-    returns)
+    (tie.spec (λ c κs. search needs) (λ c κs. search needs) (λ c κs. search needs) registers-from-requires sub-t7 returns)

@@ -1,35 +1,13 @@
+-- Written by tools/prove.py from answers/spans.py: answer da987ec2e430, proof 5328c75afea1.
 -- `spans::reads` meets its contract. Assumes nothing.
 use Rattle.isa.specs.Accesses.{readsOf}
-use borrow.Author.Tests.{eq-eqb, ne-eqb, lt-ltb, le-ltb, le-leb, lt-leb}
-use native.Mathlib.Omega.{arith}
-use Prim.Native.Nat.{_+_, _-_, _*_, _/_, _%_}
 use Rattle.needs.proofs.NeedsLaws.{block-reads-none}
-use mathlib.Core.Path.{_≡_, refl, sym, ap, _∙_}
-use borrow.Author.Needs.{needs}
 use Rattle.spans.proofs.reads.Statement.{statement}
 use Rattle.spans.proofs.reads.Tie as tie
-use Rattle.spans.proofs.reads.Reads as reads
-use Rattle.spans.proofs.reads.Lts as lts
-use Rattle.spans.proofs.all_from.Reads as all-from-reads
-use Rattle.spans.proofs.moved_span.Reads as moved-span-reads
-use Rattle.spans.proofs.popped_span.Reads as popped-span-reads
-use Rattle.spans.proofs.span_from.Reads as span-from-reads
-use Rattle.access.proofs.fields.field_b.Reads as field-b-reads
-
-all-from-requires : tie.Need-all-from-requires
-all-from-requires c κs = search needs
-
-popped-span-requires : tie.Need-popped-span-requires
-popped-span-requires c κs = search needs
-
-field-b-requires : tie.Need-field-b-requires
-field-b-requires c κs = search needs
-
-moved-span-requires : tie.Need-moved-span-requires
-moved-span-requires c κs = search needs
-
-span-from-requires : tie.Need-span-from-requires
-span-from-requires c κs = search needs
+use borrow.Author.Needs.{needs}
+use borrow.Author.Tests.{ne-eqb}
+use mathlib.Core.Path.{_∙_}
+use native.Mathlib.Omega.{arith}
 
 returns : tie.Need-returns
 unfolding readsOf
@@ -50,13 +28,5 @@ returns-4 c = (c .span-from .ensures ∙ block-reads-none (c .before .before .be
 pub reads-spec : {M : Type 1} → statement M
 reads-spec =
     tie.close
-    (tie.spec
-    all-from-requires
-    popped-span-requires
-    field-b-requires
-    moved-span-requires
-    span-from-requires
-    returns
-    returns-2
-    returns-3
-    returns-4)
+    (tie.spec (λ c κs. search needs) (λ c κs. search needs) (λ c κs. search needs) (λ c κs. search needs) (λ c κs. search needs) returns returns-2
+    returns-3 returns-4)

@@ -1,35 +1,13 @@
+-- Written by tools/prove.py from answers/spans.py: answer e933bcc95240, proof acf6fd649fa8.
 -- `spans::writes` meets its contract. Assumes nothing.
 use Rattle.isa.specs.Accesses.{writesOf}
-use borrow.Author.Tests.{eq-eqb, ne-eqb, lt-ltb, le-ltb, le-leb, lt-leb}
-use native.Mathlib.Omega.{arith}
-use Prim.Native.Nat.{_+_, _-_, _*_, _/_, _%_}
 use Rattle.needs.proofs.NeedsLaws.{block-writes-none}
-use mathlib.Core.Path.{_≡_, refl, sym, ap, _∙_}
-use borrow.Author.Needs.{needs}
 use Rattle.spans.proofs.writes.Statement.{statement}
 use Rattle.spans.proofs.writes.Tie as tie
-use Rattle.spans.proofs.writes.Reads as reads
-use Rattle.spans.proofs.writes.Lts as lts
-use Rattle.spans.proofs.all_from.Reads as all-from-reads
-use Rattle.spans.proofs.moved_span.Reads as moved-span-reads
-use Rattle.spans.proofs.pushed_span.Reads as pushed-span-reads
-use Rattle.spans.proofs.span_from.Reads as span-from-reads
-use Rattle.access.proofs.fields.field_a.Reads as field-a-reads
-
-field-a-requires : tie.Need-field-a-requires
-field-a-requires c κs = search needs
-
-moved-span-requires : tie.Need-moved-span-requires
-moved-span-requires c κs = search needs
-
-all-from-requires : tie.Need-all-from-requires
-all-from-requires c κs = search needs
-
-pushed-span-requires : tie.Need-pushed-span-requires
-pushed-span-requires c κs = search needs
-
-span-from-requires : tie.Need-span-from-requires
-span-from-requires c κs = search needs
+use borrow.Author.Needs.{needs}
+use borrow.Author.Tests.{ne-eqb}
+use mathlib.Core.Path.{_∙_}
+use native.Mathlib.Omega.{arith}
 
 returns : tie.Need-returns
 unfolding writesOf
@@ -50,13 +28,5 @@ returns-4 c = (c .span-from .ensures ∙ block-writes-none (c .before .before .b
 pub writes-spec : {M : Type 1} → statement M
 writes-spec =
     tie.close
-    (tie.spec
-    field-a-requires
-    moved-span-requires
-    all-from-requires
-    pushed-span-requires
-    span-from-requires
-    returns
-    returns-2
-    returns-3
-    returns-4)
+    (tie.spec (λ c κs. search needs) (λ c κs. search needs) (λ c κs. search needs) (λ c κs. search needs) (λ c κs. search needs) returns returns-2
+    returns-3 returns-4)

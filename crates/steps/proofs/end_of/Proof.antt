@@ -1,14 +1,10 @@
+-- Written by tools/prove.py from answers/steps.py: answer 99bab24bda6f, proof bd5659e6ddfa.
 -- `steps::end_of` meets its contract. Assumes nothing.
-use mathlib.Core.Path.{_≡_, refl, sym, ap, _∙_}
-use native.Mathlib.Omega.{arith}
-use borrow.Author.Needs.{needs}
 use Rattle.steps.proofs.end_of.Statement.{statement}
 use Rattle.steps.proofs.end_of.Tie as tie
-use Rattle.steps.proofs.end_of.Reads as reads
-use Rattle.steps.proofs.end_of.Lts as lts
-
-add-result : tie.Need-add-result
-add-result c = search needs
+use borrow.Author.Needs.{needs}
+use mathlib.Core.Path.{refl}
+use native.Mathlib.Omega.{arith}
 
 returns : tie.Need-returns
 returns c = (rw (c .if1 .taken) refl, omega arith, omega arith, λ h. absurd (omega arith))
@@ -17,4 +13,4 @@ returns-2 : tie.Need-returns-2
 returns-2 c = (rw (c .if1 .left) refl, omega arith, omega arith, λ h. c .if1 .left)
 
 pub end-of-spec : {M : Type 1} → statement M
-end-of-spec = tie.close (tie.spec add-result returns returns-2)
+end-of-spec = tie.close (tie.spec (λ c. search needs) returns returns-2)

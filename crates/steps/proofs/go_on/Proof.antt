@@ -1,26 +1,21 @@
+-- Written by tools/prove.py from answers/steps.py: answer b2db446d0f34, proof 9515929ffe91.
 -- `steps::go_on` meets its contract. Assumes nothing.
-use mathlib.Core.Path.{_≡_, refl, sym, ap, _∙_}
-use native.Mathlib.Omega.{arith}
-use borrow.Author.Tests.{eq-eqb, ne-eqb, le-leb, lt-leb, not-true, not-false}
-use lib.ListN.{length}
 use Prim.Native.Nat.{_+_, _≤_, _<_, _-_}
-use Rattle.machine.specs.State.{joined}
+use Rattle.clock.proofs.LaterLaws.{calm-fewer}
+use Rattle.clock.specs.Later.{Calm, later}
+use Rattle.isa.specs.Mil1750.{mil1750}
 use Rattle.machine.specs.Machine.{machine}
 use Rattle.machine.specs.Runs.{steps}
-use Rattle.isa.specs.Mil1750.{mil1750}
-use Rattle.clock.specs.Later.{Calm, later}
-use Rattle.clock.proofs.LaterLaws.{calm-fewer}
+use Rattle.machine.specs.State.{joined}
 use Rattle.moved.proofs.TimeLaws.{calm-same}
 use Rattle.steps.proofs.StepLaws.{stretch-start, stretch-cut, stretch-end, stretch-on}
-use borrow.Author.Needs.{needs}
 use Rattle.steps.proofs.go_on.Statement.{statement}
 use Rattle.steps.proofs.go_on.Tie as tie
-use Rattle.steps.proofs.go_on.Reads as reads
-use Rattle.steps.proofs.go_on.Lts as lts
-use Rattle.steps.proofs.turn.Reads as turn-reads
-use Rattle.clock.proofs.later.quiet.Reads as quiet-reads
-use Rattle.clock.proofs.later.tick_by.Reads as tick-by-reads
-use Rattle.clock.proofs.time.tick.Reads as tick-reads
+use borrow.Author.Needs.{needs}
+use borrow.Author.Tests.{not-true, not-false}
+use lib.ListN.{length}
+use mathlib.Core.Path.{_≡_, refl, _∙_}
+use native.Mathlib.Omega.{arith}
 
 abbrev Inv-loop : tie.InvT-loop
 Inv-loop regs₀ memory₀ pages₀ ports₀ table needs n most t₀ lag₀ regs memory pages ports t lag = (length memory ≡ length memory₀) × (length pages ≡ length pages₀) × (length ports ≡ length ports₀) × (lag < most) × (most ≤ n) × Calm (most - 1) t × (steps mil1750 n (machine (joined t₀ regs₀) memory₀ pages₀ ports₀) ≡ steps mil1750 (n - lag) (machine (later lag (joined t regs)) memory pages ports))
@@ -94,27 +89,5 @@ loop-again c = let l = c .before .before .before .before .before .before .before
 pub go-on-spec : {M : Type 1} → statement M
 go-on-spec =
     tie.close
-    (tie.spec
-    Inv-loop
-    μ-loop
-    sub-quiet
-    quiet-requires
-    add-most
-    loop-holds
-    turn-requires
-    tick-requires
-    sub-t25
-    same-length
-    same-length-2
-    same-length-3
-    returns
-    sub-tick-by
-    tick-by-requires
-    tick-requires-2
-    sub-t26
-    same-length-4
-    same-length-5
-    same-length-6
-    returns-2
-    loop-less
-    loop-again)
+    (tie.spec Inv-loop μ-loop sub-quiet quiet-requires add-most loop-holds turn-requires tick-requires sub-t25 same-length same-length-2 same-length-3
+    returns sub-tick-by tick-by-requires tick-requires-2 sub-t26 same-length-4 same-length-5 same-length-6 returns-2 loop-less loop-again)

@@ -1,29 +1,22 @@
+-- Written by tools/prove.py from answers/steps.py: answer d7a542d7ba96, proof 640d7bbacf5b.
 -- `steps::obey` meets its contract. Assumes nothing.
-use mathlib.Core.Path.{_≡_, refl, sym, ap, _∙_}
-use native.Mathlib.Omega.{arith}
-use borrow.Author.Tests.{eq-eqb, ne-eqb, le-leb, lt-leb, not-true, not-false}
-use lib.ListN.{length}
 use Prim.Native.Nat.{ℕ, _+_, _≤_, _<_, _-_}
-use Rattle.machine.specs.State.{keyOf, groupOf, joined}
-use Rattle.isa.specs.Mil1750.{mil1750}
-use mathlib.Core.Bool.{false}
-use Rattle.machine.specs.Entries.{chosen}
-use Rattle.clock.specs.Later.{Calm, later}
 use Rattle.clock.proofs.LaterLaws.{calm-fewer}
-use Rattle.moved.specs.Settled.{SameTime}
+use Rattle.clock.specs.Later.{Calm, later}
+use Rattle.isa.specs.Mil1750.{mil1750}
+use Rattle.machine.specs.Entries.{chosen}
+use Rattle.machine.specs.State.{keyOf, groupOf, joined}
 use Rattle.moved.proofs.TimeLaws.{same-here, same-onward, calm-same}
+use Rattle.moved.specs.Settled.{SameTime}
 use Rattle.steps.proofs.StepLaws.{going, row-made, row-on, sw-released, hold-released, time-released, later-released, chosen-released, chosen-later, chosen-settled}
-use borrow.Author.Needs.{needs}
 use Rattle.steps.proofs.obey.Statement.{statement}
 use Rattle.steps.proofs.obey.Tie as tie
-use Rattle.steps.proofs.obey.Reads as reads
-use Rattle.steps.proofs.obey.Lts as lts
-use Rattle.instruct.proofs.instruct.Reads as instruct-reads
-use Rattle.steps.proofs.end_of.Reads as end-of-reads
-use Rattle.steps.proofs.ended.Reads as ended-reads
-use Rattle.status_word.proofs.group_of.Reads as group-of-reads
-use Rattle.status_word.proofs.key_of.Reads as key-of-reads
-use Rattle.clock.proofs.time.release.Reads as release-reads
+use borrow.Author.Needs.{needs}
+use borrow.Author.Tests.{not-false}
+use lib.ListN.{length}
+use mathlib.Core.Bool.{false}
+use mathlib.Core.Path.{_≡_, refl, sym, ap, _∙_}
+use native.Mathlib.Omega.{arith}
 
 abbrev Inv-loop : tie.InvT-loop
 Inv-loop from most regs₀ memory₀ pages₀ ports₀ table needs key group end t₀ lag₀ regs memory pages ports t lag = (length memory ≡ length memory₀) × (length pages ≡ length pages₀) × (length ports ≡ length ports₀) × (lag₀ ≤ lag) × (lag < end) × (end ≤ most) × (key ≡ keyOf (t .sw)) × (group ≡ groupOf (t .sw)) × (t .hold ≡ false) × Calm (most - 1) t × (lag + 1 < end → 16 ≤ chosen (joined t regs)) × SameTime t₀ t × ((k : ℕ) → going mil1750 (k + (lag - lag₀)) (later lag₀ (joined t₀ regs₀)) memory₀ pages₀ ports₀ ≡ going mil1750 k (later lag (joined t regs)) memory pages ports)
@@ -91,25 +84,5 @@ loop-again c = let l = c .before .before .before .before .before .before .before
 pub obey-spec : {M : Type 1} → statement M
 obey-spec =
     tie.close
-    (tie.spec
-    Inv-loop
-    μ-loop
-    key-of-requires
-    group-of-requires
-    end-of-requires
-    release-requires
-    loop-holds
-    instruct-requires
-    add-lag
-    ended-requires
-    same-length
-    same-length-2
-    same-length-3
-    returns
-    ended-requires-2
-    same-length-4
-    same-length-5
-    same-length-6
-    returns-2
-    loop-less
-    loop-again)
+    (tie.spec Inv-loop μ-loop key-of-requires group-of-requires end-of-requires release-requires loop-holds instruct-requires add-lag ended-requires
+    same-length same-length-2 same-length-3 returns ended-requires-2 same-length-4 same-length-5 same-length-6 returns-2 loop-less loop-again)

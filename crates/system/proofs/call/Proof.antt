@@ -1,34 +1,13 @@
+-- Written by tools/prove.py from answers/system.py: answer 8ba13d812c86, proof 48e3379a90ed.
 -- `system::call` meets its contract. Assumes nothing.
-use mathlib.Core.Path.{_≡_, refl, sym, ap, _∙_}
 use Rattle.entry.proofs.EntryLaws.{entered-by}
-use Rattle.machine.specs.State.{joined}
-use Rattle.machine.specs.Step.{perform}
 use Rattle.machine.specs.Entries.{arrived}
-use Rattle.machine.specs.State.{withIc, withSw, withMk, withPi, withFt, withEnabled, advanced}
-use borrow.Author.Needs.{needs}
+use Rattle.machine.specs.State.{joined, withIc, withSw, withMk, withPi, withFt, withEnabled, advanced}
+use Rattle.machine.specs.Step.{perform}
 use Rattle.system.proofs.call.Statement.{statement}
 use Rattle.system.proofs.call.Tie as tie
-use Rattle.system.proofs.call.Reads as reads
-use Rattle.system.proofs.call.Lts as lts
-use Rattle.entry.proofs.arrive.Reads as arrive-reads
-use Rattle.entry.proofs.link.Reads as link-reads
-use Rattle.status_word.proofs.advance.Reads as advance-reads
-use Rattle.interrupt.proofs.pointers.call_vector.Reads as call-vector-reads
-
-call-vector-requires : tie.Need-call-vector-requires
-call-vector-requires c κs = search needs
-
-advance-requires : tie.Need-advance-requires
-advance-requires c κs = search needs
-
-link-requires : tie.Need-link-requires
-link-requires c κs = search needs
-
-arrive-requires : tie.Need-arrive-requires
-arrive-requires c κs = search needs
-
-same-length : tie.Need-same-length
-same-length c = search needs
+use borrow.Author.Needs.{needs}
+use mathlib.Core.Path.{refl}
 
 returns : tie.Need-returns
 unfolding perform arrived withIc withSw withMk withPi withFt withEnabled advanced
@@ -37,10 +16,4 @@ returns c = λ regs ports. rw (← c .before .before .before .before .before .be
 pub call-spec : {M : Type 1} → statement M
 call-spec =
     tie.close
-    (tie.spec
-    call-vector-requires
-    advance-requires
-    link-requires
-    arrive-requires
-    same-length
-    returns)
+    (tie.spec (λ c κs. search needs) (λ c κs. search needs) (λ c κs. search needs) (λ c κs. search needs) (λ c. search needs) returns)

@@ -1,11 +1,8 @@
+-- Written by tools/prove.py from answers/vectors.py: answer 9d75f0657ec6, proof 21b46b3374ec.
 -- `vectors::read_all` meets its contract. Assumes nothing.
-use native.Mathlib.Omega.{arith}
-use borrow.Author.Needs.{needs}
 use Rattle.vectors.proofs.read_all.Statement.{statement}
 use Rattle.vectors.proofs.read_all.Tie as tie
-use Rattle.vectors.proofs.read_all.Reads as reads
-use Rattle.vectors.proofs.read_all.Lts as lts
-use Rattle.vectors.proofs.read_some.Reads as read-some-reads
+use borrow.Author.Needs.{needs}
 
 abbrev Inv-loop : tie.InvT-loop
 Inv-loop line₀ memory₀ pages₀ ports₀ t₀ left₀ line memory pages ports t left = Unit {0}
@@ -37,13 +34,4 @@ returns-2 c = search needs
 pub read-all-spec : {M : Type 1} → statement M
 read-all-spec =
     tie.close
-    (tie.spec
-    Inv-loop
-    μ-loop
-    loop-holds
-    read-some-requires
-    returns
-    sub-left
-    loop-less
-    loop-again
-    returns-2)
+    (tie.spec Inv-loop μ-loop loop-holds read-some-requires returns sub-left loop-less loop-again returns-2)

@@ -1,16 +1,11 @@
+-- Written by tools/prove.py from answers/vectors.py: answer db3705972dd4, proof 26933abdf7d5.
 -- `vectors::show` meets its contract. Assumes nothing.
-use Prim.Native.Nat.{_-_, _≤_}
-use native.Mathlib.Omega.{arith}
-use mathlib.Core.Path.{_≡_}
-use lib.ListN.{length}
-use borrow.Author.Needs.{needs}
+use Prim.Native.Nat.{_-_}
 use Rattle.vectors.proofs.show.Statement.{statement}
 use Rattle.vectors.proofs.show.Tie as tie
-use Rattle.vectors.proofs.show.Reads as reads
-use Rattle.vectors.proofs.show.Lts as lts
-use Rattle.io.proofs.write_all.Reads as write-all-reads
-use Rattle.vector.proofs.compare.next.Reads as next-reads
-use Rattle.vector.proofs.text.entry_line.Reads as entry-line-reads
+use borrow.Author.Needs.{needs}
+use lib.ListN.{length}
+use mathlib.Core.Path.{_≡_}
 
 abbrev Inv-loop : tie.InvT-loop
 Inv-loop kind before after at₀ at = length before ≡ length after
@@ -63,20 +58,5 @@ returns c = search needs
 pub show-spec : {M : Type 1} → statement M
 show-spec =
     tie.close
-    (tie.spec
-    Inv-loop
-    μ-loop
-    next-requires
-    loop-holds
-    cast-entry-line
-    mul-entry-line
-    shared-slice-read-entry-line
-    entry-line-requires
-    array-share-prefix-out
-    slice-aggregate-write-all
-    write-all-requires
-    add-next
-    next-requires-2
-    loop-less
-    loop-again
-    returns)
+    (tie.spec Inv-loop μ-loop next-requires loop-holds cast-entry-line mul-entry-line shared-slice-read-entry-line entry-line-requires
+    array-share-prefix-out slice-aggregate-write-all write-all-requires add-next next-requires-2 loop-less loop-again returns)

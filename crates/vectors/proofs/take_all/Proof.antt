@@ -1,13 +1,10 @@
+-- Written by tools/prove.py from answers/vectors.py: answer 117cd9b80932, proof 4f62ef5a6b52.
 -- `vectors::take_all` meets its contract. Assumes nothing.
-use Prim.Native.Nat.{_-_, _≤_}
-use native.Mathlib.Omega.{arith}
-use lib.ListN.{length}
-use borrow.Author.Needs.{needs}
+use Prim.Native.Nat.{_-_}
 use Rattle.vectors.proofs.take_all.Statement.{statement}
 use Rattle.vectors.proofs.take_all.Tie as tie
-use Rattle.vectors.proofs.take_all.Reads as reads
-use Rattle.vectors.proofs.take_all.Lts as lts
-use Rattle.vectors.proofs.take.Reads as take-reads
+use borrow.Author.Needs.{needs}
+use lib.ListN.{length}
 
 abbrev Inv-loop : tie.InvT-loop
 Inv-loop bytes line₀ memory₀ pages₀ ports₀ t₀ i₀ line memory pages ports t i = Unit {0}
@@ -39,13 +36,4 @@ returns c = search needs
 pub take-all-spec : {M : Type 1} → statement M
 take-all-spec =
     tie.close
-    (tie.spec
-    Inv-loop
-    μ-loop
-    loop-holds
-    shared-slice-read-take
-    take-requires
-    add-i
-    loop-less
-    loop-again
-    returns)
+    (tie.spec Inv-loop μ-loop loop-holds shared-slice-read-take take-requires add-i loop-less loop-again returns)

@@ -1,13 +1,12 @@
+-- Written by tools/prove.py from answers/access.py: answer 95f9da37afc4, proof e692f8f70b14.
 -- `access::addressing::base_accumulator` meets its contract. Assumes nothing.
-use Rattle.isa.specs.Addressing.{baseAccumulator}
-use mathlib.Core.List.{List, [], _∷_}
-use Rattle.choice.proofs.SelectLaws.{otherwise}
-use mathlib.Core.Path.{_≡_, refl, sym, ap, _∙_}
-use borrow.Author.Needs.{needs}
 use Rattle.access.proofs.addressing.base_accumulator.Statement.{statement}
 use Rattle.access.proofs.addressing.base_accumulator.Tie as tie
-use Rattle.access.proofs.addressing.base_accumulator.Reads as reads
-use Rattle.access.proofs.addressing.base_accumulator.Lts as lts
+use Rattle.choice.proofs.SelectLaws.{otherwise}
+use Rattle.isa.specs.Addressing.{baseAccumulator}
+use borrow.Author.Needs.{needs}
+use mathlib.Core.List.{[], _∷_}
+use mathlib.Core.Path.{sym}
 
 returns : tie.Need-returns
 unfolding baseAccumulator
@@ -42,6 +41,4 @@ unfolding baseAccumulator
 returns-8 c = (sym (otherwise (c .before .args .operation) ((39, _) ∷ (48, _) ∷ (60, _) ∷ (68, _) ∷ (74, _) ∷ (79, _) ∷ (94, _) ∷ []) _ (c .match .rest)), search needs)
 
 pub base-accumulator-spec : {M : Type 1} → statement M
-base-accumulator-spec =
-    tie.close
-    (tie.spec returns returns-2 returns-3 returns-4 returns-5 returns-6 returns-7 returns-8)
+base-accumulator-spec = tie.close (tie.spec returns returns-2 returns-3 returns-4 returns-5 returns-6 returns-7 returns-8)

@@ -1,13 +1,11 @@
+-- Written by tools/prove.py from answers/access.py: answer 72a7b99b11cd, proof d7f6c505a434.
 -- `access::addressing::based` meets its contract. Assumes nothing.
-use Rattle.isa.specs.Addressing.{isBased}
-use mathlib.Core.List.{List, [], _∷_}
-use Rattle.choice.proofs.SelectLaws.{otherwise}
-use mathlib.Core.Path.{_≡_, refl, sym, ap, _∙_}
-use borrow.Author.Needs.{needs}
 use Rattle.access.proofs.addressing.based.Statement.{statement}
 use Rattle.access.proofs.addressing.based.Tie as tie
-use Rattle.access.proofs.addressing.based.Reads as reads
-use Rattle.access.proofs.addressing.based.Lts as lts
+use Rattle.choice.proofs.SelectLaws.{otherwise}
+use Rattle.isa.specs.Addressing.{isBased}
+use mathlib.Core.List.{[], _∷_}
+use mathlib.Core.Path.{sym}
 
 returns : tie.Need-returns
 unfolding isBased

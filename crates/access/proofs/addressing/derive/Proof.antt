@@ -1,81 +1,13 @@
+-- Written by tools/prove.py from answers/access.py: answer 0b4794cf8c8f, proof 0e9e8008dc46.
 -- `access::addressing::derive` meets its contract. Assumes nothing.
-use Rattle.isa.specs.Addressing.{derivedFrom}
-use Rattle.page.specs.Spans.{wrapped}
-use mathlib.Core.List.{List, [], _∷_}
-use Rattle.choice.proofs.SelectLaws.{otherwise}
-use mathlib.Core.Path.{_≡_, refl, sym, ap, _∙_}
-use borrow.Author.Needs.{needs}
 use Rattle.access.proofs.addressing.derive.Statement.{statement}
 use Rattle.access.proofs.addressing.derive.Tie as tie
-use Rattle.access.proofs.addressing.derive.Reads as reads
-use Rattle.access.proofs.addressing.derive.Lts as lts
-use Rattle.access.proofs.fields.base_of.Reads as base-of-reads
-use Rattle.access.proofs.fields.displacement_of.Reads as displacement-of-reads
-use Rattle.access.proofs.fields.field_b.Reads as field-b-reads
-use Rattle.access.proofs.fields.get.Reads as get-reads
-use Rattle.access.proofs.fields.index_by.Reads as index-by-reads
-use Rattle.access.proofs.fields.signed_displacement.Reads as signed-displacement-reads
-use Rattle.std.proofs.num.wrapping_add_u16.Reads as wrapping-add-u16-reads
-
-base-of-requires : tie.Need-base-of-requires
-base-of-requires c κs = search needs
-
-get-requires : tie.Need-get-requires
-get-requires c κs = search needs
-
-displacement-of-requires : tie.Need-displacement-of-requires
-displacement-of-requires c κs = search needs
-
-wrapping-add-u16-requires : tie.Need-wrapping-add-u16-requires
-wrapping-add-u16-requires c κs = search needs
-
-field-b-requires : tie.Need-field-b-requires
-field-b-requires c κs = search needs
-
-base-of-requires-2 : tie.Need-base-of-requires-2
-base-of-requires-2 c κs = search needs
-
-get-requires-2 : tie.Need-get-requires-2
-get-requires-2 c κs = search needs
-
-index-by-requires : tie.Need-index-by-requires
-index-by-requires c κs = search needs
-
-field-b-requires-2 : tie.Need-field-b-requires-2
-field-b-requires-2 c κs = search needs
-
-add-result : tie.Need-add-result
-add-result c = search needs
-
-field-b-requires-3 : tie.Need-field-b-requires-3
-field-b-requires-3 c κs = search needs
-
-sub-result : tie.Need-sub-result
-sub-result c = search needs
-
-field-b-requires-4 : tie.Need-field-b-requires-4
-field-b-requires-4 c κs = search needs
-
-index-by-requires-2 : tie.Need-index-by-requires-2
-index-by-requires-2 c κs = search needs
-
-field-b-requires-5 : tie.Need-field-b-requires-5
-field-b-requires-5 c κs = search needs
-
-index-by-requires-3 : tie.Need-index-by-requires-3
-index-by-requires-3 c κs = search needs
-
-field-b-requires-6 : tie.Need-field-b-requires-6
-field-b-requires-6 c κs = search needs
-
-index-by-requires-4 : tie.Need-index-by-requires-4
-index-by-requires-4 c κs = search needs
-
-signed-displacement-requires : tie.Need-signed-displacement-requires
-signed-displacement-requires c κs = search needs
-
-wrapping-add-u16-requires-2 : tie.Need-wrapping-add-u16-requires-2
-wrapping-add-u16-requires-2 c κs = search needs
+use Rattle.choice.proofs.SelectLaws.{otherwise}
+use Rattle.isa.specs.Addressing.{derivedFrom}
+use Rattle.page.specs.Spans.{wrapped}
+use borrow.Author.Needs.{needs}
+use mathlib.Core.List.{[], _∷_}
+use mathlib.Core.Path.{refl, sym}
 
 returns : tie.Need-returns
 unfolding derivedFrom wrapped
@@ -120,34 +52,7 @@ returns-10 c = sym (otherwise (c .before .args .mode) ((2, _) ∷ (3, _) ∷ (4,
 pub derive-spec : {M : Type 1} → statement M
 derive-spec =
     tie.close
-    (tie.spec
-    base-of-requires
-    get-requires
-    displacement-of-requires
-    wrapping-add-u16-requires
-    field-b-requires
-    base-of-requires-2
-    get-requires-2
-    index-by-requires
-    field-b-requires-2
-    add-result
-    field-b-requires-3
-    sub-result
-    field-b-requires-4
-    index-by-requires-2
-    field-b-requires-5
-    index-by-requires-3
-    field-b-requires-6
-    index-by-requires-4
-    signed-displacement-requires
-    wrapping-add-u16-requires-2
-    returns
-    returns-2
-    returns-3
-    returns-4
-    returns-5
-    returns-6
-    returns-7
-    returns-8
-    returns-9
-    returns-10)
+    (tie.spec (λ c κs. search needs) (λ c κs. search needs) (λ c κs. search needs) (λ c κs. search needs) (λ c κs. search needs) (λ c κs. search needs)
+    (λ c κs. search needs) (λ c κs. search needs) (λ c κs. search needs) (λ c. search needs) (λ c κs. search needs) (λ c. search needs)
+    (λ c κs. search needs) (λ c κs. search needs) (λ c κs. search needs) (λ c κs. search needs) (λ c κs. search needs) (λ c κs. search needs)
+    (λ c κs. search needs) (λ c κs. search needs) returns returns-2 returns-3 returns-4 returns-5 returns-6 returns-7 returns-8 returns-9 returns-10)

@@ -1,13 +1,11 @@
+-- Written by tools/prove.py from answers/access.py: answer 3ba666d7daba, proof fc0e650da807.
 -- `access::addressing::immediate` meets its contract. Assumes nothing.
-use Rattle.isa.specs.Addressing.{isImmediate}
-use mathlib.Core.List.{List, [], _∷_}
-use Rattle.choice.proofs.SelectLaws.{otherwise}
-use mathlib.Core.Path.{_≡_, refl, sym, ap, _∙_}
-use borrow.Author.Needs.{needs}
 use Rattle.access.proofs.addressing.immediate.Statement.{statement}
 use Rattle.access.proofs.addressing.immediate.Tie as tie
-use Rattle.access.proofs.addressing.immediate.Reads as reads
-use Rattle.access.proofs.addressing.immediate.Lts as lts
+use Rattle.choice.proofs.SelectLaws.{otherwise}
+use Rattle.isa.specs.Addressing.{isImmediate}
+use mathlib.Core.List.{[], _∷_}
+use mathlib.Core.Path.{sym}
 
 returns : tie.Need-returns
 unfolding isImmediate

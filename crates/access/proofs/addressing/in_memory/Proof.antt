@@ -1,13 +1,11 @@
+-- Written by tools/prove.py from answers/access.py: answer d29aaaf79406, proof f791489555d2.
 -- `access::addressing::in_memory` meets its contract. Assumes nothing.
-use Rattle.isa.specs.Addressing.{inMemory}
-use mathlib.Core.List.{List, [], _∷_}
-use Rattle.choice.proofs.SelectLaws.{otherwise}
-use mathlib.Core.Path.{_≡_, refl, sym, ap, _∙_}
-use borrow.Author.Needs.{needs}
 use Rattle.access.proofs.addressing.in_memory.Statement.{statement}
 use Rattle.access.proofs.addressing.in_memory.Tie as tie
-use Rattle.access.proofs.addressing.in_memory.Reads as reads
-use Rattle.access.proofs.addressing.in_memory.Lts as lts
+use Rattle.choice.proofs.SelectLaws.{otherwise}
+use Rattle.isa.specs.Addressing.{inMemory}
+use mathlib.Core.List.{[], _∷_}
+use mathlib.Core.Path.{sym}
 
 returns : tie.Need-returns
 unfolding inMemory

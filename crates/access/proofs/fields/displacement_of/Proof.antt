@@ -1,11 +1,9 @@
+-- Written by tools/prove.py from answers/access.py: answer 5af002b95c77, proof 8a5d65d73eb7.
 -- `access::fields::displacement_of` meets its contract. Assumes nothing.
-use Rattle.isa.specs.Fields.{displacement}
-use mathlib.Core.Path.{_≡_, refl, sym, ap, _∙_}
-use borrow.Author.Needs.{needs}
 use Rattle.access.proofs.fields.displacement_of.Statement.{statement}
 use Rattle.access.proofs.fields.displacement_of.Tie as tie
-use Rattle.access.proofs.fields.displacement_of.Reads as reads
-use Rattle.access.proofs.fields.displacement_of.Lts as lts
+use Rattle.isa.specs.Fields.{displacement}
+use mathlib.Core.Path.{refl}
 
 returns : tie.Need-returns
 unfolding displacement

@@ -1,11 +1,10 @@
+-- Written by tools/prove.py from answers/access.py: answer e4c1df2205b7, proof 4e68ca8a0c52.
 -- `access::fields::field_a` meets its contract. Assumes nothing.
-use Rattle.isa.specs.Fields.{fieldA}
-use mathlib.Core.Path.{_≡_, refl, sym, ap, _∙_}
-use borrow.Author.Needs.{needs}
 use Rattle.access.proofs.fields.field_a.Statement.{statement}
 use Rattle.access.proofs.fields.field_a.Tie as tie
-use Rattle.access.proofs.fields.field_a.Reads as reads
-use Rattle.access.proofs.fields.field_a.Lts as lts
+use Rattle.isa.specs.Fields.{fieldA}
+use borrow.Author.Needs.{needs}
+use mathlib.Core.Path.{refl}
 
 returns : tie.Need-returns
 unfolding fieldA

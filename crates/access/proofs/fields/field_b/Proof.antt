@@ -1,11 +1,10 @@
+-- Written by tools/prove.py from answers/access.py: answer d56a15441ea4, proof 87c42cbb2eb2.
 -- `access::fields::field_b` meets its contract. Assumes nothing.
-use Rattle.isa.specs.Fields.{fieldB}
-use mathlib.Core.Path.{_≡_, refl, sym, ap, _∙_}
-use borrow.Author.Needs.{needs}
 use Rattle.access.proofs.fields.field_b.Statement.{statement}
 use Rattle.access.proofs.fields.field_b.Tie as tie
-use Rattle.access.proofs.fields.field_b.Reads as reads
-use Rattle.access.proofs.fields.field_b.Lts as lts
+use Rattle.isa.specs.Fields.{fieldB}
+use borrow.Author.Needs.{needs}
+use mathlib.Core.Path.{refl}
 
 returns : tie.Need-returns
 unfolding fieldB

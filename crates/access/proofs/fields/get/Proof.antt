@@ -1,24 +1,14 @@
+-- Written by tools/prove.py from answers/access.py: answer 13947959e1d1, proof 3038d5a5cd13.
 -- `access::fields::get` meets its contract. Assumes nothing.
-use Rattle.isa.specs.Fields.{register}
-use mathlib.Core.Path.{_≡_, refl, sym, ap, _∙_}
-use borrow.Author.Needs.{needs}
 use Rattle.access.proofs.fields.get.Statement.{statement}
 use Rattle.access.proofs.fields.get.Tie as tie
-use Rattle.access.proofs.fields.get.Reads as reads
-use Rattle.access.proofs.fields.get.Lts as lts
-
-cast-result : tie.Need-cast-result
-cast-result c = search needs
-
-mul-result : tie.Need-mul-result
-mul-result c = search needs
-
-element-copy-out-result : tie.Need-element-copy-out-result
-element-copy-out-result c = search needs
+use Rattle.isa.specs.Fields.{register}
+use borrow.Author.Needs.{needs}
+use mathlib.Core.Path.{refl}
 
 returns : tie.Need-returns
 unfolding register
 returns c = refl
 
 pub get-spec : {M : Type 1} → statement M
-get-spec = tie.close (tie.spec cast-result mul-result element-copy-out-result returns)
+get-spec = tie.close (tie.spec (λ c. search needs) (λ c. search needs) (λ c. search needs) returns)

@@ -1,24 +1,14 @@
+-- Written by tools/prove.py from answers/access.py: answer 7227072814e2, proof b6716348da6f.
 -- `access::fields::registers_from` meets its contract. Assumes nothing.
-use Rattle.isa.specs.Fields.{registersFrom}
-use mathlib.Core.Path.{_≡_, refl, sym, ap, _∙_}
-use borrow.Author.Needs.{needs}
 use Rattle.access.proofs.fields.registers_from.Statement.{statement}
 use Rattle.access.proofs.fields.registers_from.Tie as tie
-use Rattle.access.proofs.fields.registers_from.Reads as reads
-use Rattle.access.proofs.fields.registers_from.Lts as lts
-
-add-result : tie.Need-add-result
-add-result c = search needs
-
-sub-result : tie.Need-sub-result
-sub-result c = search needs
-
-add-result-2 : tie.Need-add-result-2
-add-result-2 c = search needs
+use Rattle.isa.specs.Fields.{registersFrom}
+use borrow.Author.Needs.{needs}
+use mathlib.Core.Path.{refl}
 
 returns : tie.Need-returns
 unfolding registersFrom
 returns c = (refl, search needs)
 
 pub registers-from-spec : {M : Type 1} → statement M
-registers-from-spec = tie.close (tie.spec add-result sub-result add-result-2 returns)
+registers-from-spec = tie.close (tie.spec (λ c. search needs) (λ c. search needs) (λ c. search needs) returns)

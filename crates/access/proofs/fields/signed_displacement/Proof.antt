@@ -1,23 +1,18 @@
+-- Written by tools/prove.py from answers/access.py: answer b37c06b518bb, proof f8977970e02a.
 -- `access::fields::signed_displacement` meets its contract. Assumes nothing.
-use Rattle.isa.specs.Fields.{signedDisplacement}
-use borrow.Author.Tests.{eq-eqb, ne-eqb, lt-ltb, le-ltb, le-leb, lt-leb}
-use mathlib.Core.Path.{_≡_, refl, sym, ap, _∙_}
-use borrow.Author.Needs.{needs}
 use Rattle.access.proofs.fields.signed_displacement.Statement.{statement}
 use Rattle.access.proofs.fields.signed_displacement.Tie as tie
-use Rattle.access.proofs.fields.signed_displacement.Reads as reads
-use Rattle.access.proofs.fields.signed_displacement.Lts as lts
+use Rattle.isa.specs.Fields.{signedDisplacement}
+use borrow.Author.Needs.{needs}
+use borrow.Author.Tests.{lt-ltb, le-ltb}
 
 returns : tie.Need-returns
 unfolding signedDisplacement
 returns c = rw (lt-ltb _ _ (c .if1 .taken))
-
-add-result : tie.Need-add-result
-add-result c = search needs
 
 returns-2 : tie.Need-returns-2
 unfolding signedDisplacement
 returns-2 c = rw (le-ltb _ _ (c .if1 .left))
 
 pub signed-displacement-spec : {M : Type 1} → statement M
-signed-displacement-spec = tie.close (tie.spec returns add-result returns-2)
+signed-displacement-spec = tie.close (tie.spec returns (λ c. search needs) returns-2)

@@ -1,25 +1,11 @@
+-- Written by tools/prove.py from answers/accumulate.py: answer eb36b69dbb5c, proof 176c2426394e.
 -- `accumulate::double::combine32` meets its contract. Assumes nothing.
-use mathlib.Core.Path.{_≡_, refl, sym, ap, _∙_}
-use mathlib.Core.List.{List, [], _∷_}
-use Rattle.choice.proofs.SelectLaws.{otherwise}
-use Rattle.accumulate.specs.Ways.{intoDouble}
-use borrow.Author.Needs.{needs}
 use Rattle.accumulate.proofs.double.combine32.Statement.{statement}
 use Rattle.accumulate.proofs.double.combine32.Tie as tie
-use Rattle.accumulate.proofs.double.combine32.Reads as reads
-use Rattle.accumulate.proofs.double.combine32.Lts as lts
-use Rattle.accumulate.proofs.double.plain32.Reads as plain32-reads
-use Rattle.fixed.proofs.sums.add32.Reads as add32-reads
-use Rattle.fixed.proofs.sums.sub32.Reads as sub32-reads
-
-add32-requires : tie.Need-add32-requires
-add32-requires c κs = search needs
-
-sub32-requires : tie.Need-sub32-requires
-sub32-requires c κs = search needs
-
-plain32-requires : tie.Need-plain32-requires
-plain32-requires c κs = search needs
+use Rattle.accumulate.specs.Ways.{intoDouble}
+use Rattle.choice.proofs.SelectLaws.{otherwise}
+use borrow.Author.Needs.{needs}
+use mathlib.Core.List.{[], _∷_}
 
 returns : tie.Need-returns
 unfolding intoDouble
@@ -35,4 +21,5 @@ returns-3 c = rw (otherwise (c .before .before .args .operation) ((59, _) ∷ (6
 
 pub combine32-spec : {M : Type 1} → statement M
 combine32-spec =
-    tie.close (tie.spec add32-requires sub32-requires plain32-requires returns returns-2 returns-3)
+    tie.close
+    (tie.spec (λ c κs. search needs) (λ c κs. search needs) (λ c κs. search needs) returns returns-2 returns-3)

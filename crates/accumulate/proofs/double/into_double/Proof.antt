@@ -1,93 +1,27 @@
+-- Written by tools/prove.py from answers/accumulate.py: answer e28d5a878cee, proof 1df5891cb7cf.
 -- `accumulate::double::into_double` meets its contract. Assumes nothing.
-use mathlib.Core.Path.{_≡_, refl, sym, ap, _∙_}
-use native.Mathlib.Omega.{arith}
-use Rattle.accumulate.proofs.WayLaws.{way-user, way-reads, way-writes, doubled, does-double}
-use Rattle.accumulate.proofs.EndLaws.{words-first, read-done, read-refused, double-after}
-use Rattle.machine.specs.State.{joined}
-use Rattle.isa.specs.Mil1750.{contextOf}
-use Rattle.fixed.specs.Fixed.{double}
-use Rattle.isa.specs.Accesses.{atOperand}
-use Rattle.isa.specs.Integers.{doubleOutcome}
-use Rattle.isa.specs.Effects.{fixedOverflow}
-use Rattle.isa.specs.Fields.{withRegister}
-use Rattle.isa.specs.Addressing.{accumulator}
 use Prim.Native.Nat.{_+_}
-use Rattle.accumulate.specs.Ways.{target}
-use Rattle.word.specs.Pair.{highWord, lowWord}
-use Rattle.isa.specs.Words.{registerPair}
-use borrow.Author.Needs.{needs}
+use Rattle.accumulate.proofs.EndLaws.{words-first, read-done, read-refused, double-after}
+use Rattle.accumulate.proofs.WayLaws.{way-user, way-reads, way-writes, doubled, does-double}
 use Rattle.accumulate.proofs.double.into_double.Statement.{statement}
 use Rattle.accumulate.proofs.double.into_double.Tie as tie
-use Rattle.accumulate.proofs.double.into_double.Reads as reads
-use Rattle.accumulate.proofs.double.into_double.Lts as lts
-use Rattle.access.proofs.addressing.double_operand.Reads as double-operand-reads
-use Rattle.access.proofs.fields.get.Reads as get-reads
-use Rattle.access.proofs.fields.put.Reads as put-reads
-use Rattle.accumulate.proofs.double.combine32.Reads as combine32-reads
-use Rattle.accumulate.proofs.double.target_of.Reads as target-of-reads
-use Rattle.accumulate.proofs.finish.done.Reads as done-reads
-use Rattle.accumulate.proofs.finish.refused.Reads as refused-reads
-use Rattle.accumulate.proofs.operand.read_operand.Reads as read-operand-reads
-use Rattle.effect.proofs.fixed_overflow.Reads as fixed-overflow-reads
-use Rattle.effect.proofs.following.Reads as following-reads
-use Rattle.word.proofs.pair.high.Reads as high-reads
-use Rattle.word.proofs.pair.join.Reads as join-reads
-use Rattle.word.proofs.pair.low.Reads as low-reads
-
-read-operand-requires : tie.Need-read-operand-requires
-read-operand-requires c κs = search needs
-
-target-of-requires : tie.Need-target-of-requires
-target-of-requires c κs = search needs
-
-get-requires : tie.Need-get-requires
-get-requires c κs = search needs
-
-add-get : tie.Need-add-get
-add-get c = search needs
-
-get-requires-2 : tie.Need-get-requires-2
-get-requires-2 c κs = search needs
-
-join-requires : tie.Need-join-requires
-join-requires c κs = search needs
-
-double-operand-requires : tie.Need-double-operand-requires
-double-operand-requires c κs = search needs
-
-combine32-requires : tie.Need-combine32-requires
-combine32-requires c κs = search needs
-
-high-requires : tie.Need-high-requires
-high-requires c κs = search needs
-
-put-requires : tie.Need-put-requires
-put-requires c κs = search needs
-
-add-put : tie.Need-add-put
-add-put c = search needs
-
-low-requires : tie.Need-low-requires
-low-requires c κs = search needs
-
-put-requires-2 : tie.Need-put-requires-2
-put-requires-2 c κs = search needs
-
-fixed-overflow-requires : tie.Need-fixed-overflow-requires
-fixed-overflow-requires c κs = search needs
-
-following-requires : tie.Need-following-requires
-following-requires c κs = search needs
-
-done-requires : tie.Need-done-requires
-done-requires c κs = search needs
+use Rattle.accumulate.specs.Ways.{target}
+use Rattle.fixed.specs.Fixed.{double}
+use Rattle.isa.specs.Accesses.{atOperand}
+use Rattle.isa.specs.Effects.{fixedOverflow}
+use Rattle.isa.specs.Fields.{withRegister}
+use Rattle.isa.specs.Integers.{doubleOutcome}
+use Rattle.isa.specs.Mil1750.{contextOf}
+use Rattle.isa.specs.Words.{registerPair}
+use Rattle.machine.specs.State.{joined}
+use Rattle.word.specs.Pair.{highWord, lowWord}
+use borrow.Author.Needs.{needs}
+use mathlib.Core.Path.{_≡_, refl, ap, _∙_}
+use native.Mathlib.Omega.{arith}
 
 returns : tie.Need-returns
 unfolding atOperand contextOf double registerPair
 returns c = let o : c .before .before .before .before .before .before .before .before .before .combine32 .result ≡ double (doubled (c .before .before .before .before .before .before .before .before .before .before .before .before .before .before .before .before .before .before .before .before .before .before .before .args .n) (contextOf (joined (c .before .before .before .before .before .before .before .before .before .before .before .before .before .before .before .before .before .before .before .before .before .before .before .args .core) (c .before .before .before .before .before .before .before .before .before .before .before .before .before .before .before .before .before .before .before .before .before .before .before .args .regs .now))) (c .before .before .before .before .before .before .before .before .before .before .before .before .before .before .before .before .before .before .before .before .read-operand .result .x) (c .before .before .before .before .before .before .before .before .before .before .before .before .before .before .before .before .before .before .before .before .read-operand .result .y)) = rw (← c .before .before .before .before .before .before .before .before .before .before .before .before .before .before .before .before .before .before .target-of .ensures .0, ← c .before .before .before .before .before .before .before .before .before .before .before .before .before .before .before .before .get .ensures, ← c .before .before .before .before .before .before .before .before .before .before .before .before .before .before .get2 .ensures, ← c .before .before .before .before .before .before .before .before .before .before .before .before .before .join .ensures, ← c .before .before .before .before .before .before .before .before .before .before .double-operand .ensures) (c .before .before .before .before .before .before .before .before .before .combine32 .ensures) in let w = words-first (joined (c .before .before .before .before .before .before .before .before .before .before .before .before .before .before .before .before .before .before .before .before .before .before .before .args .core) (c .before .before .before .before .before .before .before .before .before .before .before .before .before .before .before .before .before .before .before .before .before .before .before .args .regs .now)) (c .before .before .before .before .before .before .before .before .before .before .before .before .before .before .before .before .before .before .before .before .before .before .before .args .memory .now) (c .before .before .before .before .before .before .before .before .before .before .before .before .before .before .before .before .before .before .before .before .before .before .before .args .pages .now) (c .before .before .before .before .before .before .before .before .before .before .before .before .before .before .before .before .before .before .before .before .before .before .before .args .n) (way-user (c .before .before .before .before .before .before .before .before .before .before .before .before .before .before .before .before .before .before .before .before .before .before .before .args .n) 2 (c .before .before .before .before .before .before .before .before .before .before .before .before .before .before .before .before .before .before .before .before .before .before .before .pre .4) (omega arith)) _ _ 2 (c .before .before .before .before .before .before .before .before .before .before .before .before .before .before .before .before .before .before .before .before .before .before .before .pre .1) (c .before .before .before .before .before .before .before .before .before .before .before .before .before .before .before .before .before .before .before .before .before .before .before .pre .2) (way-reads (c .before .before .before .before .before .before .before .before .before .before .before .before .before .before .before .before .before .before .before .before .before .before .before .args .n) 2 2 0 (c .before .before .before .before .before .before .before .before .before .before .before .before .before .before .before .before .before .before .before .before .before .before .before .pre .4) (omega arith) refl refl refl refl refl (c .before .before .before .before .before .before .before .before .before .before .before .before .before .before .before .before .before .before .before .before .before .before .before .args .regs .now)) (way-writes (c .before .before .before .before .before .before .before .before .before .before .before .before .before .before .before .before .before .before .before .before .before .before .before .args .n) 2 2 0 (c .before .before .before .before .before .before .before .before .before .before .before .before .before .before .before .before .before .before .before .before .before .before .before .pre .4) (omega arith) refl refl refl refl refl (c .before .before .before .before .before .before .before .before .before .before .before .before .before .before .before .before .before .before .before .before .before .before .before .args .regs .now)) _ (c .before .before .before .before .before .before .before .before .before .before .before .before .before .before .before .before .before .before .before .before .read-operand .ensures) (c .before .before .before .before .before .before .before .before .before .before .before .before .before .before .before .before .before .before .before .if1 .taken) in read-done (joined (c .before .before .before .before .before .before .before .before .before .before .before .before .before .before .before .before .before .before .before .before .before .before .before .args .core) (c .before .before .before .before .before .before .before .before .before .before .before .before .before .before .before .before .before .before .before .before .before .before .before .args .regs .now)) (c .before .before .before .before .before .before .before .before .before .before .before .before .before .before .before .before .before .before .before .before .before .before .before .args .memory .now) (c .before .before .before .before .before .before .before .before .before .before .before .before .before .before .before .before .before .before .before .before .before .before .before .args .pages .now) (c .before .before .before .before .before .before .before .before .before .before .before .before .before .before .before .before .before .before .before .before .before .before .before .args .n) (way-user (c .before .before .before .before .before .before .before .before .before .before .before .before .before .before .before .before .before .before .before .before .before .before .before .args .n) 2 (c .before .before .before .before .before .before .before .before .before .before .before .before .before .before .before .before .before .before .before .before .before .before .before .pre .4) (omega arith)) _ _ 2 (c .before .before .before .before .before .before .before .before .before .before .before .before .before .before .before .before .before .before .before .before .before .before .before .pre .1) (c .before .before .before .before .before .before .before .before .before .before .before .before .before .before .before .before .before .before .before .before .before .before .before .pre .2) (way-reads (c .before .before .before .before .before .before .before .before .before .before .before .before .before .before .before .before .before .before .before .before .before .before .before .args .n) 2 2 0 (c .before .before .before .before .before .before .before .before .before .before .before .before .before .before .before .before .before .before .before .before .before .before .before .pre .4) (omega arith) refl refl refl refl refl (c .before .before .before .before .before .before .before .before .before .before .before .before .before .before .before .before .before .before .before .before .before .before .before .args .regs .now)) (way-writes (c .before .before .before .before .before .before .before .before .before .before .before .before .before .before .before .before .before .before .before .before .before .before .before .args .n) 2 2 0 (c .before .before .before .before .before .before .before .before .before .before .before .before .before .before .before .before .before .before .before .before .before .before .before .pre .4) (omega arith) refl refl refl refl refl (c .before .before .before .before .before .before .before .before .before .before .before .before .before .before .before .before .before .before .before .before .before .before .before .args .regs .now)) _ (c .before .before .before .before .before .before .before .before .before .before .before .before .before .before .before .before .before .before .before .before .read-operand .ensures) (doubleOutcome (contextOf (joined (c .before .before .before .before .before .before .before .before .before .before .before .before .before .before .before .before .before .before .before .before .before .before .before .args .core) (c .before .before .before .before .before .before .before .before .before .before .before .before .before .before .before .before .before .before .before .before .before .before .before .args .regs .now))) (c .before .before .before .before .before .before .before .before .before .before .before .before .before .before .before .before .before .before .before .before .before .before .before .args .n) (target (c .before .before .before .before .before .before .before .before .before .before .before .before .before .before .before .before .before .before .before .before .before .before .before .args .n)) (doubled (c .before .before .before .before .before .before .before .before .before .before .before .before .before .before .before .before .before .before .before .before .before .before .before .args .n) (contextOf (joined (c .before .before .before .before .before .before .before .before .before .before .before .before .before .before .before .before .before .before .before .before .before .before .before .args .core) (c .before .before .before .before .before .before .before .before .before .before .before .before .before .before .before .before .before .before .before .before .before .before .before .args .regs .now))) (c .before .before .before .before .before .before .before .before .before .before .before .before .before .before .before .before .before .before .before .before .read-operand .result .x) (c .before .before .before .before .before .before .before .before .before .before .before .before .before .before .before .before .before .before .before .before .read-operand .result .y))) _ _ _ (c .before .before .before .before .before .before .before .before .before .before .before .before .before .before .before .before .before .before .before .if1 .taken) (does-double (c .before .before .before .before .before .before .before .before .before .before .before .before .before .before .before .before .before .before .before .before .before .before .before .args .n) (c .before .before .before .before .before .before .before .before .before .before .before .before .before .before .before .before .before .before .before .before .before .before .before .pre .4) _ _ _ _ (w .first-is) (w .second-is)) (c .done .ensures .0) (double-after (c .before .before .before .before .before .before .before .before .before .before .before .before .before .before .before .before .before .before .before .before .before .before .before .args .core) (c .done .result .core) (c .before .before .before .before .before .before .before .before .before .before .before .before .before .before .before .before .before .before .before .before .before .before .before .args .regs .now) (c .before .before .before .before .before .before .before .before .before .before .before .before .before .before .before .before .before .before .before .before .before .before .before .args .n) (target (c .before .before .before .before .before .before .before .before .before .before .before .before .before .before .before .before .before .before .before .before .before .before .before .args .n)) _ _ _ (doubled (c .before .before .before .before .before .before .before .before .before .before .before .before .before .before .before .before .before .before .before .before .before .before .before .args .n) (contextOf (joined (c .before .before .before .before .before .before .before .before .before .before .before .before .before .before .before .before .before .before .before .before .before .before .before .args .core) (c .before .before .before .before .before .before .before .before .before .before .before .before .before .before .before .before .before .before .before .before .before .before .before .args .regs .now))) (c .before .before .before .before .before .before .before .before .before .before .before .before .before .before .before .before .before .before .before .before .read-operand .result .x) (c .before .before .before .before .before .before .before .before .before .before .before .before .before .before .before .before .before .before .before .before .read-operand .result .y)) (c .done .ensures .1) (c .before .following .ensures) (ap (λ r. r .cs) o) (c .before .before .fixed-overflow .ensures ∙ ap (λ r. fixedOverflow (r .overflow)) o) _ (c .before .before .before .put2 .ensures ∙ ap (λ r. withRegister r (c .before .before .before .before .before .before .before .before .before .before .before .before .before .before .before .before .before .before .target-of .result + 1) (c .before .before .before .before .low .result)) (c .before .before .before .before .before .before .put .ensures) ∙ ap (λ h. withRegister (withRegister (c .before .before .before .before .before .before .before .before .before .before .before .before .before .before .before .before .before .before .before .before .before .before .before .args .regs .now) (c .before .before .before .before .before .before .before .before .before .before .before .before .before .before .before .before .before .before .target-of .result) (h)) (c .before .before .before .before .before .before .before .before .before .before .before .before .before .before .before .before .before .before .target-of .result + 1) (c .before .before .before .before .low .result)) (c .before .before .before .before .before .before .before .high .ensures) ∙ ap (λ l. withRegister (withRegister (c .before .before .before .before .before .before .before .before .before .before .before .before .before .before .before .before .before .before .before .before .before .before .before .args .regs .now) (c .before .before .before .before .before .before .before .before .before .before .before .before .before .before .before .before .before .before .target-of .result) (highWord (c .before .before .before .before .before .before .before .before .before .combine32 .result .value))) (c .before .before .before .before .before .before .before .before .before .before .before .before .before .before .before .before .before .before .target-of .result + 1) (l)) (c .before .before .before .before .low .ensures) ∙ ap (λ k. withRegister (withRegister (c .before .before .before .before .before .before .before .before .before .before .before .before .before .before .before .before .before .before .before .before .before .before .before .args .regs .now) (k) (highWord (c .before .before .before .before .before .before .before .before .before .combine32 .result .value))) (k + 1) (lowWord (c .before .before .before .before .before .before .before .before .before .combine32 .result .value))) (c .before .before .before .before .before .before .before .before .before .before .before .before .before .before .before .before .before .before .target-of .ensures .0) ∙ ap (λ r. withRegister (withRegister (c .before .before .before .before .before .before .before .before .before .before .before .before .before .before .before .before .before .before .before .before .before .before .before .args .regs .now) (target (c .before .before .before .before .before .before .before .before .before .before .before .before .before .before .before .before .before .before .before .before .before .before .before .args .n)) (highWord (r .value))) (target (c .before .before .before .before .before .before .before .before .before .before .before .before .before .before .before .before .before .before .before .before .before .before .before .args .n) + 1) (lowWord (r .value))) o))
-
-refused-requires : tie.Need-refused-requires
-refused-requires c κs = search needs
 
 returns-2 : tie.Need-returns-2
 unfolding atOperand contextOf double registerPair
@@ -96,23 +30,6 @@ returns-2 c = read-refused (joined (c .before .before .before .before .before .a
 pub into-double-spec : {M : Type 1} → statement M
 into-double-spec =
     tie.close
-    (tie.spec
-    read-operand-requires
-    target-of-requires
-    get-requires
-    add-get
-    get-requires-2
-    join-requires
-    double-operand-requires
-    combine32-requires
-    high-requires
-    put-requires
-    add-put
-    low-requires
-    put-requires-2
-    fixed-overflow-requires
-    following-requires
-    done-requires
-    returns
-    refused-requires
-    returns-2)
+    (tie.spec (λ c κs. search needs) (λ c κs. search needs) (λ c κs. search needs) (λ c. search needs) (λ c κs. search needs) (λ c κs. search needs)
+    (λ c κs. search needs) (λ c κs. search needs) (λ c κs. search needs) (λ c κs. search needs) (λ c. search needs) (λ c κs. search needs)
+    (λ c κs. search needs) (λ c κs. search needs) (λ c κs. search needs) (λ c κs. search needs) returns (λ c κs. search needs) returns-2)

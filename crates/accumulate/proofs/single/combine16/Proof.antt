@@ -1,39 +1,11 @@
+-- Written by tools/prove.py from answers/accumulate.py: answer 5ffa28b8cbad, proof badb1b950350.
 -- `accumulate::single::combine16` meets its contract. Assumes nothing.
-use mathlib.Core.Path.{_≡_, refl, sym, ap, _∙_}
-use mathlib.Core.List.{List, [], _∷_}
-use Rattle.choice.proofs.SelectLaws.{otherwise}
-use Rattle.accumulate.specs.Ways.{intoSingle}
-use borrow.Author.Needs.{needs}
 use Rattle.accumulate.proofs.single.combine16.Statement.{statement}
 use Rattle.accumulate.proofs.single.combine16.Tie as tie
-use Rattle.accumulate.proofs.single.combine16.Reads as reads
-use Rattle.accumulate.proofs.single.combine16.Lts as lts
-use Rattle.accumulate.proofs.single.plain16.Reads as plain16-reads
-use Rattle.fixed.proofs.sums.add16.Reads as add16-reads
-use Rattle.fixed.proofs.sums.sub16.Reads as sub16-reads
-use Rattle.bits.proofs.logic.and.Reads as and-reads
-use Rattle.bits.proofs.logic.or.Reads as or-reads
-
-add16-requires : tie.Need-add16-requires
-add16-requires c κs = search needs
-
-sub16-requires : tie.Need-sub16-requires
-sub16-requires c κs = search needs
-
-or-requires : tie.Need-or-requires
-or-requires c κs = search needs
-
-plain16-requires : tie.Need-plain16-requires
-plain16-requires c κs = search needs
-
-and-requires : tie.Need-and-requires
-and-requires c κs = search needs
-
-plain16-requires-2 : tie.Need-plain16-requires-2
-plain16-requires-2 c κs = search needs
-
-plain16-requires-3 : tie.Need-plain16-requires-3
-plain16-requires-3 c κs = search needs
+use Rattle.accumulate.specs.Ways.{intoSingle}
+use Rattle.choice.proofs.SelectLaws.{otherwise}
+use borrow.Author.Needs.{needs}
+use mathlib.Core.List.{[], _∷_}
 
 returns : tie.Need-returns
 unfolding intoSingle
@@ -58,16 +30,5 @@ returns-5 c = rw (otherwise (c .before .before .args .operation) ((55, _) ∷ (6
 pub combine16-spec : {M : Type 1} → statement M
 combine16-spec =
     tie.close
-    (tie.spec
-    add16-requires
-    sub16-requires
-    or-requires
-    plain16-requires
-    and-requires
-    plain16-requires-2
-    plain16-requires-3
-    returns
-    returns-2
-    returns-3
-    returns-4
-    returns-5)
+    (tie.spec (λ c κs. search needs) (λ c κs. search needs) (λ c κs. search needs) (λ c κs. search needs) (λ c κs. search needs) (λ c κs. search needs)
+    (λ c κs. search needs) returns returns-2 returns-3 returns-4 returns-5)

@@ -1,13 +1,14 @@
+-- Written by tools/prove.py from answers/block.py: answer fa7306143cdc, proof 91578213f7b5.
 -- `block::stores::push_words` meets its contract. Assumes nothing.
-use mathlib.Core.Path.{_≡_, refl, sym, ap, _∙_}
-use native.Mathlib.Omega.{arith}
 use Prim.Native.Nat.{ℕ, _+_, _-_, _%_, _≤_, _<_}
-use lib.ListN.{length, length-set, getD, take, drop}
+use Rattle.block.proofs.stores.push_words.Statement.{statement}
+use Rattle.block.proofs.stores.push_words.Tie as tie
 use Rattle.isa.specs.Blocks.{pushedWord}
 use Rattle.rearrange.proofs.BlockLaws.{pushed-at, one-more}
 use borrow.Author.Needs.{needs}
-use Rattle.block.proofs.stores.push_words.Statement.{statement}
-use Rattle.block.proofs.stores.push_words.Tie as tie
+use lib.ListN.{length, length-set, getD}
+use mathlib.Core.Path.{_≡_, sym, _∙_}
+use native.Mathlib.Omega.{arith}
 
 abbrev Inv-loop : tie.InvT-loop
 Inv-loop regs buf₀ b k i₀ buf i = (b < 16) × (k ≤ 16) × (length buf ≡ 16) × ((j : ℕ) → j < i → getD buf j 0 ≡ pushedWord regs ((16 + b - j) % 16) j)
@@ -60,20 +61,5 @@ returns c = rw (← c .before .before .before .field-a .ensures .0, ← c .befor
 pub push-words-spec : {M : Type 1} → statement M
 push-words-spec =
     tie.close
-    (tie.spec
-    Inv-loop
-    μ-loop
-    field-b-requires
-    field-a-requires
-    registers-from-requires
-    loop-holds
-    cast-number
-    add-pushed-word
-    sub-pushed-word
-    pushed-word-requires
-    mul-buf
-    element-write-buf
-    add-i
-    loop-less
-    loop-again
-    returns)
+    (tie.spec Inv-loop μ-loop field-b-requires field-a-requires registers-from-requires loop-holds cast-number add-pushed-word sub-pushed-word
+    pushed-word-requires mul-buf element-write-buf add-i loop-less loop-again returns)

@@ -1,22 +1,14 @@
+-- Written by tools/prove.py from answers/block.py: answer 46d5d261e804, proof 769f5d6ea82f.
 -- `block::stores::store_pushed` meets its contract. Assumes nothing.
-use mathlib.Core.Path.{_≡_, refl, sym, ap, _∙_}
-use Rattle.rearrange.proofs.BlockLaws.{written-agree}
-use Rattle.isa.specs.Accesses.{pushedSpan}
-use borrow.Author.Needs.{needs}
 use Rattle.block.proofs.stores.store_pushed.Statement.{statement}
 use Rattle.block.proofs.stores.store_pushed.Tie as tie
-
-push-words-requires : tie.Need-push-words-requires
-push-words-requires c κs = search needs
-
-pushed-span-requires : tie.Need-pushed-span-requires
-pushed-span-requires c κs = search needs
+use Rattle.isa.specs.Accesses.{pushedSpan}
+use Rattle.rearrange.proofs.BlockLaws.{written-agree}
+use borrow.Author.Needs.{needs}
+use mathlib.Core.Path.{_∙_}
 
 write-span-requires : tie.Need-write-span-requires
 write-span-requires c κs = (c .before .before .before .before .before .before .before .pre .0, c .before .before .before .before .before .before .before .pre .1, c .pushed-span .ensures .1)
-
-same-length : tie.Need-same-length
-same-length c = search needs
 
 returns : tie.Need-returns
 unfolding pushedSpan
@@ -25,9 +17,4 @@ returns c = (rw (c .before .before .before .pushed-span .ensures .0) at (c .befo
 pub store-pushed-spec : {M : Type 1} → statement M
 store-pushed-spec =
     tie.close
-    (tie.spec
-    push-words-requires
-    pushed-span-requires
-    write-span-requires
-    same-length
-    returns)
+    (tie.spec (λ c κs. search needs) (λ c κs. search needs) write-span-requires (λ c. search needs) returns)

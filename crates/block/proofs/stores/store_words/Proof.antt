@@ -1,30 +1,21 @@
+-- Written by tools/prove.py from answers/block.py: answer 918f65bd81f5, proof e01befaad339.
 -- `block::stores::store_words` meets its contract. Assumes nothing.
-use mathlib.Core.Path.{_≡_, refl, sym, ap, _∙_}
-use mathlib.Core.List.{List, [], _∷_}
-use mathlib.Core.Bool.{true, false, false≢true}
-use Rattle.choice.proofs.SelectLaws.{otherwise}
-use Rattle.rearrange.proofs.BlockLaws.{operand-unwritten}
-use Rattle.isa.specs.Accesses.{wordsWritten}
-use Rattle.isa.specs.Blocks.{rearranged, storedAll, pushedAll}
-use Rattle.rearrange.specs.Operation.{isBlock}
-use Prim.Native.Nat.{ℕ, _+_, _-_, _%_, _≤_, _<_}
-use Rattle.isa.specs.Accesses.{writesOf}
-use Rattle.isa.specs.Execute.{executed}
-use borrow.Author.Needs.{needs}
+use Prim.Native.Nat.{_%_}
 use Rattle.block.proofs.stores.store_words.Statement.{statement}
 use Rattle.block.proofs.stores.store_words.Tie as tie
-
-store-moved-requires : tie.Need-store-moved-requires
-store-moved-requires c κs = search needs
-
-all-from-requires : tie.Need-all-from-requires
-all-from-requires c κs = search needs
+use Rattle.choice.proofs.SelectLaws.{otherwise}
+use Rattle.isa.specs.Accesses.{wordsWritten, writesOf}
+use Rattle.isa.specs.Blocks.{rearranged, storedAll, pushedAll}
+use Rattle.isa.specs.Execute.{executed}
+use Rattle.rearrange.proofs.BlockLaws.{operand-unwritten}
+use Rattle.rearrange.specs.Operation.{isBlock}
+use borrow.Author.Needs.{needs}
+use mathlib.Core.Bool.{false≢true}
+use mathlib.Core.List.{[], _∷_}
+use mathlib.Core.Path.{sym, _∙_}
 
 write-span-requires : tie.Need-write-span-requires
 write-span-requires c κs = (c .before .before .before .before .before .before .pre .0, c .before .before .before .before .before .before .pre .1, c .all-from .ensures .1)
-
-store-pushed-requires : tie.Need-store-pushed-requires
-store-pushed-requires c κs = search needs
 
 returns : tie.Need-returns
 unfolding writesOf wordsWritten
@@ -34,22 +25,13 @@ returns-2 : tie.Need-returns-2
 unfolding writesOf wordsWritten
 returns-2 c = λ v e. rw (c .match .keys2) (operand-unwritten _ _ _ _ _ _ _)
 
-same-length : tie.Need-same-length
-same-length c = search needs
-
 returns-3 : tie.Need-returns-3
 unfolding writesOf executed
 returns-3 c = λ v e. rw (c .before .before .before .before .match .keys3) (c .before .before .store-moved .ensures v e)
 
-same-length-2 : tie.Need-same-length-2
-same-length-2 c = search needs
-
 returns-4 : tie.Need-returns-4
 unfolding writesOf executed storedAll rearranged
 returns-4 c = λ v e. rw (c .before .before .before .before .before .match .keys4, e, ← c .before .before .before .all-from .ensures .0) (c .before .before .write-span .ensures)
-
-same-length-3 : tie.Need-same-length-3
-same-length-3 c = search needs
 
 returns-5 : tie.Need-returns-5
 unfolding writesOf executed pushedAll rearranged
@@ -66,18 +48,5 @@ returns-7 c = λ v e. absurd (false≢true (sym (otherwise (c .before .before .b
 pub store-words-spec : {M : Type 1} → statement M
 store-words-spec =
     tie.close
-    (tie.spec
-    store-moved-requires
-    all-from-requires
-    write-span-requires
-    store-pushed-requires
-    returns
-    returns-2
-    same-length
-    returns-3
-    same-length-2
-    returns-4
-    same-length-3
-    returns-5
-    returns-6
-    returns-7)
+    (tie.spec (λ c κs. search needs) (λ c κs. search needs) write-span-requires (λ c κs. search needs) returns returns-2 (λ c. search needs) returns-3
+    (λ c. search needs) returns-4 (λ c. search needs) returns-5 returns-6 returns-7)

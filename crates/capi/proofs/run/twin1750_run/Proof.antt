@@ -1,64 +1,20 @@
+-- Written by tools/prove.py from answers/capi.py: answer 1515391b654e, proof ed273a9d3ae7.
 -- `capi::run::twin1750_run` meets its contract. Assumes nothing.
-use mathlib.Core.Path.{_≡_, ap, _∙_}
-use Rattle.machine.specs.Runs.{numberOf}
-use Rattle.capi.specs.Calls.{given, running}
 use Rattle.capi.proofs.CallLaws.{unsized, refused, done}
-use borrow.Author.Needs.{needs}
 use Rattle.capi.proofs.run.twin1750_run.Statement.{statement}
 use Rattle.capi.proofs.run.twin1750_run.Tie as tie
-use Rattle.capi.proofs.run.twin1750_run.Reads as reads
-use Rattle.capi.proofs.run.twin1750_run.Lts as lts
-use Rattle.packed.proofs.pack.Reads as pack-reads
-use Rattle.packed.proofs.unpack.Reads as unpack-reads
-use Rattle.cpu.proofs.run.number.Reads as number-reads
-use Rattle.cpu.proofs.run.run.Reads as run-reads
+use Rattle.capi.specs.Calls.{given, running}
+use Rattle.machine.specs.Runs.{numberOf}
+use borrow.Author.Needs.{needs}
+use mathlib.Core.Path.{ap, _∙_}
 
 returns : tie.Need-returns
 unfolding running given
 returns c = unsized _ _ _ (c .if1 .taken)
 
-unpack-requires : tie.Need-unpack-requires
-unpack-requires c κs = search needs
-
-run-requires : tie.Need-run-requires
-run-requires c κs = search needs
-
-number-requires : tie.Need-number-requires
-number-requires c κs = search needs
-
-cast-refused : tie.Need-cast-refused
-cast-refused c = search needs
-
-same-length : tie.Need-same-length
-same-length c = search needs
-
-same-length-2 : tie.Need-same-length-2
-same-length-2 c = search needs
-
-same-length-3 : tie.Need-same-length-3
-same-length-3 c = search needs
-
-same-length-4 : tie.Need-same-length-4
-same-length-4 c = search needs
-
 returns-2 : tie.Need-returns-2
 unfolding running given
 returns-2 c = rw (← c .before .before .before .before .before .before .before .before .before .before .before .before .unpack .ensures) (refused _ _ _ _ _ (c .before .before .before .before .before .before .before .before .before .before .before .before .before .before .if1 .left) (c .before .number .ensures ∙ ap numberOf (c .before .before .before .before .before .before .before .before .run .ensures .0)) (c .before .before .before .before .before .before .before .before .run .ensures .1) (c .if2 .taken))
-
-pack-requires : tie.Need-pack-requires
-pack-requires c κs = search needs
-
-same-length-5 : tie.Need-same-length-5
-same-length-5 c = search needs
-
-same-length-6 : tie.Need-same-length-6
-same-length-6 c = search needs
-
-same-length-7 : tie.Need-same-length-7
-same-length-7 c = search needs
-
-same-length-8 : tie.Need-same-length-8
-same-length-8 c = search needs
 
 returns-3 : tie.Need-returns-3
 unfolding running given
@@ -67,20 +23,6 @@ returns-3 c = rw (← c .before .before .before .before .before .before .before 
 pub twin1750-run-spec : {M : Type 1} → statement M
 twin1750-run-spec =
     tie.close
-    (tie.spec
-    returns
-    unpack-requires
-    run-requires
-    number-requires
-    cast-refused
-    same-length
-    same-length-2
-    same-length-3
-    same-length-4
-    returns-2
-    pack-requires
-    same-length-5
-    same-length-6
-    same-length-7
-    same-length-8
-    returns-3)
+    (tie.spec returns (λ c κs. search needs) (λ c κs. search needs) (λ c κs. search needs) (λ c. search needs) (λ c. search needs) (λ c. search needs)
+    (λ c. search needs) (λ c. search needs) returns-2 (λ c κs. search needs) (λ c. search needs) (λ c. search needs) (λ c. search needs)
+    (λ c. search needs) returns-3)

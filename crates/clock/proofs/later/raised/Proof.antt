@@ -1,11 +1,8 @@
+-- Written by tools/prove.py from answers/clock.py: answer 8b9a02bad85b, proof 4f6d88f19746.
 -- `clock::later::raised` meets its contract. Assumes nothing.
-use mathlib.Core.Path.{_≡_, refl, sym, ap, _∙_}
-use native.Mathlib.Omega.{arith}
-use borrow.Author.Needs.{needs}
 use Rattle.clock.proofs.later.raised.Statement.{statement}
 use Rattle.clock.proofs.later.raised.Tie as tie
-use Rattle.clock.proofs.later.raised.Reads as reads
-use Rattle.clock.proofs.later.raised.Lts as lts
+use native.Mathlib.Omega.{arith}
 
 add-result : tie.Need-add-result
 add-result c = omega (arith, c .before .pre (c .if1 .taken))

@@ -1,17 +1,13 @@
+-- Written by tools/prove.py from answers/clock.py: answer 8406f594e729, proof e60218092924.
 -- `clock::later::room` meets its contract. Assumes nothing.
-use mathlib.Core.Path.{_≡_, refl, sym, ap, _∙_}
-use native.Mathlib.Omega.{arith}
-use borrow.Author.Tests.{lt-ltb, le-ltb}
-use Rattle.clock.specs.Later.{roomOf}
-use mathlib.Core.Bool.{false≢true}
-use borrow.Author.Needs.{needs}
 use Rattle.clock.proofs.later.room.Statement.{statement}
 use Rattle.clock.proofs.later.room.Tie as tie
-use Rattle.clock.proofs.later.room.Reads as reads
-use Rattle.clock.proofs.later.room.Lts as lts
-
-sub-most : tie.Need-sub-most
-sub-most c = search needs
+use Rattle.clock.specs.Later.{roomOf}
+use borrow.Author.Needs.{needs}
+use borrow.Author.Tests.{lt-ltb, le-ltb}
+use mathlib.Core.Bool.{false≢true}
+use mathlib.Core.Path.{refl, sym, _∙_}
+use native.Mathlib.Omega.{arith}
 
 returns : tie.Need-returns
 unfolding roomOf
@@ -26,4 +22,4 @@ unfolding roomOf
 returns-3 c = (rw (c .if1 .left) refl, omega arith, λ e. absurd (false≢true (sym (c .if1 .left) ∙ e)))
 
 pub room-spec : {M : Type 1} → statement M
-room-spec = tie.close (tie.spec sub-most returns returns-2 returns-3)
+room-spec = tie.close (tie.spec (λ c. search needs) returns returns-2 returns-3)

@@ -1,12 +1,9 @@
+-- Written by tools/prove.py from answers/clock.py: answer 2bcddb9be51a, proof 3ff5c6ad7d28.
 -- `clock::later::tick_by` meets its contract. Assumes nothing.
-use mathlib.Core.Path.{_≡_, refl, sym, ap, _∙_}
-use native.Mathlib.Omega.{arith}
-use borrow.Author.Needs.{needs}
 use Rattle.clock.proofs.later.tick_by.Statement.{statement}
 use Rattle.clock.proofs.later.tick_by.Tie as tie
-use Rattle.clock.proofs.later.tick_by.Reads as reads
-use Rattle.clock.proofs.later.tick_by.Lts as lts
-use Rattle.clock.proofs.later.raised.Reads as raised-reads
+use mathlib.Core.Path.{refl}
+use native.Mathlib.Omega.{arith}
 
 add-count : tie.Need-add-count
 add-count c = omega (arith, c .before .pre .count-inside)

@@ -1,9 +1,10 @@
+-- Written by tools/prove.py from answers/clock.py: answer 40dfb857084e, proof 191069d4d8cb.
 -- `clock::time::fault` meets its contract. Assumes nothing.
-use mathlib.Core.Path.{refl}
-use Rattle.machine.specs.Step.{faulted}
-use Rattle.machine.specs.State.{withIc, withPi, withFt}
 use Rattle.clock.proofs.time.fault.Statement.{statement}
 use Rattle.clock.proofs.time.fault.Tie as tie
+use Rattle.machine.specs.State.{withIc, withPi, withFt}
+use Rattle.machine.specs.Step.{faulted}
+use mathlib.Core.Path.{refl}
 
 returns : tie.Need-returns
 unfolding faulted withIc withPi withFt

@@ -1,8 +1,9 @@
+-- Written by tools/prove.py from answers/clock.py: answer 3ca4a9eceaf0, proof 1b5e2d82f721.
 -- `clock::time::pass` meets its contract. Assumes nothing.
-use borrow.Author.Tests.{eq-eqb, ne-eqb}
-use Rattle.machine.specs.Step.{passing}
 use Rattle.clock.proofs.time.pass.Statement.{statement}
 use Rattle.clock.proofs.time.pass.Tie as tie
+use Rattle.machine.specs.Step.{passing}
+use borrow.Author.Tests.{eq-eqb, ne-eqb}
 
 returns : tie.Need-returns
 unfolding passing

@@ -1,12 +1,10 @@
+-- Written by tools/prove.py from answers/clock.py: answer 87c82e7c549e, proof 31ef9b09af3d.
 -- `clock::time::rise` meets its contract. Assumes nothing.
+use Rattle.clock.proofs.time.rise.Statement.{statement}
+use Rattle.clock.proofs.time.rise.Tie as tie
 use Rattle.machine.specs.Step.{risen}
 use Rattle.page.specs.Spans.{wrapped}
 use borrow.Author.Needs.{needs}
-use Rattle.clock.proofs.time.rise.Statement.{statement}
-use Rattle.clock.proofs.time.rise.Tie as tie
-
-wrapping-add-u16-requires : tie.Need-wrapping-add-u16-requires
-wrapping-add-u16-requires c κs = search needs
 
 returns : tie.Need-returns
 unfolding risen wrapped
@@ -17,4 +15,4 @@ unfolding risen wrapped
 returns-2 c = rw (c .if1 .left)
 
 pub rise-spec : {M : Type 1} → statement M
-rise-spec = tie.close (tie.spec wrapping-add-u16-requires returns returns-2)
+rise-spec = tie.close (tie.spec (λ c κs. search needs) returns returns-2)

@@ -1,3 +1,4 @@
+-- Written by tools/prove.py from answers/clock.py: answer d119899723bd, proof 1ad2a60f53f1.
 -- `clock::time::rises_b` meets its contract. Assumes nothing.
 use Rattle.clock.proofs.time.rises_b.Statement.{statement}
 use Rattle.clock.proofs.time.rises_b.Tie as tie

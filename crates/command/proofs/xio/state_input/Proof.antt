@@ -1,42 +1,17 @@
+-- Written by tools/prove.py from answers/command.py: answer 099efb2211c2, proof 7e460fd6ffea.
 -- `command::xio::state_input` meets its contract. Assumes nothing.
-use mathlib.Core.Path.{_≡_, refl, sym, ap, _∙_}
-use mathlib.Core.List.{List, [], _∷_}
 use Rattle.choice.proofs.SelectLaws.{otherwise}
-use borrow.Author.Tests.{eq-eqb, ne-eqb, lt-ltb, le-ltb, le-leb, lt-leb}
-use lib.Dec.{ltb, leb}
-use Rattle.command.proofs.CommandLaws.{unlisted, past-outputs, same}
-use Rattle.isa.specs.Commands.{stateCommand, becomes, withRa, faultsRead}
-use Rattle.command.specs.Outcome.{governed, Kept}
-use Rattle.machine.specs.State.{withRegs}
-use borrow.Author.Needs.{needs}
+use Rattle.command.proofs.CommandLaws.{unlisted}
 use Rattle.command.proofs.xio.state_input.Statement.{statement}
 use Rattle.command.proofs.xio.state_input.Tie as tie
-use Rattle.command.proofs.xio.state_input.Reads as reads
-use Rattle.command.proofs.xio.state_input.Lts as lts
-
-take-requires : tie.Need-take-requires
-take-requires c κs = search needs
-
-take-requires-2 : tie.Need-take-requires-2
-take-requires-2 c κs = search needs
-
-take-requires-3 : tie.Need-take-requires-3
-take-requires-3 c κs = search needs
-
-take-requires-4 : tie.Need-take-requires-4
-take-requires-4 c κs = search needs
-
-reset-bit-requires : tie.Need-reset-bit-requires
-reset-bit-requires c κs = search needs
-
-set-pending-requires : tie.Need-set-pending-requires
-set-pending-requires c κs = search needs
-
-take-requires-5 : tie.Need-take-requires-5
-take-requires-5 c κs = search needs
-
-take-requires-6 : tie.Need-take-requires-6
-take-requires-6 c κs = search needs
+use Rattle.command.specs.Outcome.{governed, Kept}
+use Rattle.isa.specs.Commands.{stateCommand, becomes, withRa, faultsRead}
+use Rattle.machine.specs.State.{withRegs}
+use borrow.Author.Needs.{needs}
+use borrow.Author.Tests.{le-ltb}
+use lib.Dec.{ltb}
+use mathlib.Core.List.{[], _∷_}
+use mathlib.Core.Path.{refl, sym, ap, _∙_}
 
 returns : tie.Need-returns
 unfolding stateCommand becomes withRa faultsRead governed Kept withRegs
@@ -69,19 +44,5 @@ returns-7 c = (λ g o ra. sym (unlisted (λ k. ltb k 0x8000) (c .before .args .n
 pub state-input-spec : {M : Type 1} → statement M
 state-input-spec =
     tie.close
-    (tie.spec
-    take-requires
-    take-requires-2
-    take-requires-3
-    take-requires-4
-    reset-bit-requires
-    set-pending-requires
-    take-requires-5
-    take-requires-6
-    returns
-    returns-2
-    returns-3
-    returns-4
-    returns-5
-    returns-6
-    returns-7)
+    (tie.spec (λ c κs. search needs) (λ c κs. search needs) (λ c κs. search needs) (λ c κs. search needs) (λ c κs. search needs) (λ c κs. search needs)
+    (λ c κs. search needs) (λ c κs. search needs) returns returns-2 returns-3 returns-4 returns-5 returns-6 returns-7)

@@ -1,57 +1,17 @@
+-- Written by tools/prove.py from answers/command.py: answer f3a154f52096, proof d3999426f221.
 -- `command::xio::state_output` meets its contract. Assumes nothing.
-use mathlib.Core.Path.{_≡_, refl, sym, ap, _∙_}
-use mathlib.Core.List.{List, [], _∷_}
 use Rattle.choice.proofs.SelectLaws.{otherwise}
-use borrow.Author.Tests.{eq-eqb, ne-eqb, lt-ltb, le-ltb, le-leb, lt-leb}
-use lib.Dec.{ltb, leb}
-use Rattle.command.proofs.CommandLaws.{unlisted, past-outputs, same}
-use Rattle.machine.specs.State.{withEnabled, withHold, withTa, withTb, withTaOn, withTbOn}
-use Rattle.isa.specs.Commands.{stateCommand, becomes}
-use Rattle.command.specs.Outcome.{governed}
-use borrow.Author.Needs.{needs}
+use Rattle.command.proofs.CommandLaws.{unlisted}
 use Rattle.command.proofs.xio.state_output.Statement.{statement}
 use Rattle.command.proofs.xio.state_output.Tie as tie
-use Rattle.command.proofs.xio.state_output.Reads as reads
-use Rattle.command.proofs.xio.state_output.Lts as lts
-
-set-mask-requires : tie.Need-set-mask-requires
-set-mask-requires c κs = search needs
-
-set-pending-requires : tie.Need-set-pending-requires
-set-pending-requires c κs = search needs
-
-set-enabled-requires : tie.Need-set-enabled-requires
-set-enabled-requires c κs = search needs
-
-set-enabled-requires-2 : tie.Need-set-enabled-requires-2
-set-enabled-requires-2 c κs = search needs
-
-reset-pending-requires : tie.Need-reset-pending-requires
-reset-pending-requires c κs = search needs
-
-hold-pending-requires : tie.Need-hold-pending-requires
-hold-pending-requires c κs = search needs
-
-set-status-requires : tie.Need-set-status-requires
-set-status-requires c κs = search needs
-
-set-timer-a-requires : tie.Need-set-timer-a-requires
-set-timer-a-requires c κs = search needs
-
-set-timer-a-requires-2 : tie.Need-set-timer-a-requires-2
-set-timer-a-requires-2 c κs = search needs
-
-set-timer-a-requires-3 : tie.Need-set-timer-a-requires-3
-set-timer-a-requires-3 c κs = search needs
-
-set-timer-b-requires : tie.Need-set-timer-b-requires
-set-timer-b-requires c κs = search needs
-
-set-timer-b-requires-2 : tie.Need-set-timer-b-requires-2
-set-timer-b-requires-2 c κs = search needs
-
-set-timer-b-requires-3 : tie.Need-set-timer-b-requires-3
-set-timer-b-requires-3 c κs = search needs
+use Rattle.command.specs.Outcome.{governed}
+use Rattle.isa.specs.Commands.{stateCommand, becomes}
+use Rattle.machine.specs.State.{withEnabled, withHold, withTa, withTb, withTaOn, withTbOn}
+use borrow.Author.Needs.{needs}
+use borrow.Author.Tests.{lt-leb}
+use lib.Dec.{leb}
+use mathlib.Core.List.{[], _∷_}
+use mathlib.Core.Path.{refl, sym, ap, _∙_}
 
 returns : tie.Need-returns
 unfolding stateCommand becomes governed
@@ -112,31 +72,7 @@ returns-14 c = λ regs g o n. sym (otherwise (c .before .args .command) ((0x2000
 pub state-output-spec : {M : Type 1} → statement M
 state-output-spec =
     tie.close
-    (tie.spec
-    set-mask-requires
-    set-pending-requires
-    set-enabled-requires
-    set-enabled-requires-2
-    reset-pending-requires
-    hold-pending-requires
-    set-status-requires
-    set-timer-a-requires
-    set-timer-a-requires-2
-    set-timer-a-requires-3
-    set-timer-b-requires
-    set-timer-b-requires-2
-    set-timer-b-requires-3
-    returns
-    returns-2
-    returns-3
-    returns-4
-    returns-5
-    returns-6
-    returns-7
-    returns-8
-    returns-9
-    returns-10
-    returns-11
-    returns-12
-    returns-13
-    returns-14)
+    (tie.spec (λ c κs. search needs) (λ c κs. search needs) (λ c κs. search needs) (λ c κs. search needs) (λ c κs. search needs) (λ c κs. search needs)
+    (λ c κs. search needs) (λ c κs. search needs) (λ c κs. search needs) (λ c κs. search needs) (λ c κs. search needs) (λ c κs. search needs)
+    (λ c κs. search needs) returns returns-2 returns-3 returns-4 returns-5 returns-6 returns-7 returns-8 returns-9 returns-10 returns-11 returns-12
+    returns-13 returns-14)

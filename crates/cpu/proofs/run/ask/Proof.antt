@@ -1,16 +1,11 @@
+-- Written by tools/prove.py from answers/cpu.py: answer 3d8b6ed44ca1, proof 672f364ea975.
 -- `cpu::run::ask` meets its contract. Assumes nothing.
-use mathlib.Core.Path.{_≡_, refl, sym, ap, _∙_}
-use borrow.Author.Tests.{eq-eqb, ne-eqb, le-leb, lt-leb, not-true, not-false}
-use Rattle.machine.specs.Runs.{admission, asked}
-use borrow.Author.Needs.{needs}
 use Rattle.cpu.proofs.run.ask.Statement.{statement}
 use Rattle.cpu.proofs.run.ask.Tie as tie
-use Rattle.cpu.proofs.run.ask.Reads as reads
-use Rattle.cpu.proofs.run.ask.Lts as lts
-use Rattle.cpu.proofs.run.whole.Reads as whole-reads
-
-whole-requires : tie.Need-whole-requires
-whole-requires c κs = search needs
+use Rattle.machine.specs.Runs.{admission, asked}
+use borrow.Author.Needs.{needs}
+use borrow.Author.Tests.{eq-eqb, ne-eqb, le-leb, lt-leb, not-true, not-false}
+use mathlib.Core.Path.{refl}
 
 returns : tie.Need-returns
 unfolding admission asked
@@ -28,9 +23,6 @@ returns-4 : tie.Need-returns-4
 unfolding admission asked
 returns-4 c = rw (← c .before .before .before .before .whole .ensures, not-false (c .before .before .before .before .whole .result) (c .before .before .before .if1 .left), eq-eqb _ _ (c .before .before .if2 .left), eq-eqb _ _ (c .before .if3 .left), lt-leb _ _ (c .if4 .taken)) refl
 
-add-if5 : tie.Need-add-if5
-add-if5 c = search needs
-
 returns-5 : tie.Need-returns-5
 unfolding admission asked
 returns-5 c = rw (← c .before .before .before .before .before .whole .ensures, not-false (c .before .before .before .before .before .whole .result) (c .before .before .before .before .if1 .left), eq-eqb _ _ (c .before .before .before .if2 .left), eq-eqb _ _ (c .before .before .if3 .left), le-leb _ _ (c .before .if4 .left), lt-leb _ _ (c .if5 .taken)) refl
@@ -42,4 +34,4 @@ returns-6 c = rw (← c .before .before .before .before .before .whole .ensures,
 pub ask-spec : {M : Type 1} → statement M
 ask-spec =
     tie.close
-    (tie.spec whole-requires returns returns-2 returns-3 returns-4 add-if5 returns-5 returns-6)
+    (tie.spec (λ c κs. search needs) returns returns-2 returns-3 returns-4 (λ c. search needs) returns-5 returns-6)

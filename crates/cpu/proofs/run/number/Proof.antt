@@ -1,29 +1,9 @@
+-- Written by tools/prove.py from answers/cpu.py: answer eca0e6f3217a, proof bc403eadd8e5.
 -- `cpu::run::number` meets its contract. Assumes nothing.
-use mathlib.Core.Path.{_≡_, refl, sym, ap, _∙_}
-use Rattle.machine.specs.Runs.{numberOf}
-use borrow.Author.Needs.{needs}
 use Rattle.cpu.proofs.run.number.Statement.{statement}
 use Rattle.cpu.proofs.run.number.Tie as tie
-use Rattle.cpu.proofs.run.number.Reads as reads
-use Rattle.cpu.proofs.run.number.Lts as lts
-
-enum-told : tie.Need-enum-told
-enum-told c = search needs
-
-enum-told-2 : tie.Need-enum-told-2
-enum-told-2 c = search needs
-
-enum-told-3 : tie.Need-enum-told-3
-enum-told-3 c = search needs
-
-enum-told-4 : tie.Need-enum-told-4
-enum-told-4 c = search needs
-
-enum-told-5 : tie.Need-enum-told-5
-enum-told-5 c = search needs
-
-enum-told-6 : tie.Need-enum-told-6
-enum-told-6 c = search needs
+use Rattle.machine.specs.Runs.{numberOf}
+use borrow.Author.Needs.{needs}
 
 returns : tie.Need-returns
 unfolding numberOf
@@ -52,16 +32,5 @@ returns-6 c = cc
 pub number-spec : {M : Type 1} → statement M
 number-spec =
     tie.close
-    (tie.spec
-    enum-told
-    enum-told-2
-    enum-told-3
-    enum-told-4
-    enum-told-5
-    enum-told-6
-    returns
-    returns-2
-    returns-3
-    returns-4
-    returns-5
-    returns-6)
+    (tie.spec (λ c. search needs) (λ c. search needs) (λ c. search needs) (λ c. search needs) (λ c. search needs) (λ c. search needs) returns returns-2
+    returns-3 returns-4 returns-5 returns-6)

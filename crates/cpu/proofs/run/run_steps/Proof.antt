@@ -1,19 +1,17 @@
+-- Written by tools/prove.py from answers/cpu.py: answer 6bc5b62b4824, proof a05094020f40.
 -- `cpu::run::run_steps` meets its contract. Assumes nothing.
-use mathlib.Core.Path.{_≡_, refl, sym, ap, _∙_}
-use native.Mathlib.Omega.{arith}
-use lib.ListN.{length}
-use Rattle.machine.specs.State.{joined}
-use Rattle.machine.specs.Machine.{machine}
-use Rattle.machine.specs.Runs.{steps}
-use Rattle.isa.specs.Mil1750.{mil1750}
-use Rattle.steps.proofs.StepLaws.{steps-none}
-use Rattle.machine.proofs.MachineLaws.{machine-became}
-use borrow.Author.Needs.{needs}
 use Rattle.cpu.proofs.run.run_steps.Statement.{statement}
 use Rattle.cpu.proofs.run.run_steps.Tie as tie
-use Rattle.cpu.proofs.run.run_steps.Reads as reads
-use Rattle.cpu.proofs.run.run_steps.Lts as lts
-use Rattle.steps.proofs.go_on.Reads as go-on-reads
+use Rattle.isa.specs.Mil1750.{mil1750}
+use Rattle.machine.proofs.MachineLaws.{machine-became}
+use Rattle.machine.specs.Machine.{machine}
+use Rattle.machine.specs.Runs.{steps}
+use Rattle.machine.specs.State.{joined}
+use Rattle.steps.proofs.StepLaws.{steps-none}
+use borrow.Author.Needs.{needs}
+use lib.ListN.{length}
+use mathlib.Core.Path.{_≡_, refl, sym, _∙_}
+use native.Mathlib.Omega.{arith}
 
 abbrev Inv-loop : tie.InvT-loop
 Inv-loop regs₀ memory₀ pages₀ ports₀ table needs n t₀ due₀ regs memory pages ports t due = (length memory ≡ length memory₀) × (length pages ≡ length pages₀) × (length ports ≡ length ports₀) × (steps mil1750 due₀ (machine (joined t₀ regs₀) memory₀ pages₀ ports₀) ≡ steps mil1750 due (machine (joined t regs) memory pages ports))
@@ -48,14 +46,4 @@ returns c = let l = c .before .loop in machine-became (sym (l .inv .3 ∙ steps-
 pub run-steps-spec : {M : Type 1} → statement M
 run-steps-spec =
     tie.close
-    (tie.spec
-    Inv-loop
-    μ-loop
-    loop-holds
-    go-on-requires
-    loop-less
-    loop-again
-    same-length
-    same-length-2
-    same-length-3
-    returns)
+    (tie.spec Inv-loop μ-loop loop-holds go-on-requires loop-less loop-again same-length same-length-2 same-length-3 returns)

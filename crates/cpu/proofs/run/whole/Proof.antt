@@ -1,12 +1,10 @@
+-- Written by tools/prove.py from answers/cpu.py: answer b2b99b0976f5, proof 4d5d5f3a381f.
 -- `cpu::run::whole` meets its contract. Assumes nothing.
-use mathlib.Core.Path.{_≡_, refl, sym, ap, _∙_}
-use borrow.Author.Tests.{eq-eqb, ne-eqb, le-leb, lt-leb, not-true, not-false}
-use Rattle.machine.specs.Runs.{wholePages}
-use borrow.Author.Needs.{needs}
 use Rattle.cpu.proofs.run.whole.Statement.{statement}
 use Rattle.cpu.proofs.run.whole.Tie as tie
-use Rattle.cpu.proofs.run.whole.Reads as reads
-use Rattle.cpu.proofs.run.whole.Lts as lts
+use Rattle.machine.specs.Runs.{wholePages}
+use borrow.Author.Tests.{eq-eqb, ne-eqb, le-leb, lt-leb}
+use mathlib.Core.Path.{refl}
 
 returns : tie.Need-returns
 unfolding wholePages

@@ -1,44 +1,24 @@
+-- Written by tools/prove.py from answers/direct.py: answer 950eefe05632, proof b6fa45b22d63.
 -- `direct::branch::branch` meets its contract. Assumes nothing.
-use mathlib.Core.Path.{_≡_, refl, sym, ap, _∙_}
-use native.Mathlib.Omega.{arith}
-use Rattle.accumulate.proofs.WayLaws.{way-user, way-reads, way-writes, does-branch}
 use Rattle.accumulate.proofs.EndLaws.{idle-done}
-use mathlib.Core.Bool.{true, false, cond}
-use Rattle.machine.specs.State.{csOf, joined}
-use Rattle.isa.specs.Mil1750.{contextOf}
+use Rattle.accumulate.proofs.WayLaws.{way-user, way-reads, way-writes, does-branch}
 use Rattle.accumulate.specs.Ways.{isTaken}
-use Rattle.isa.specs.Effects.{effect, jumped, following}
-use Rattle.isa.specs.Fields.{withRegisters}
-use Rattle.isa.specs.Addressing.{inMemory}
 use Rattle.decode.specs.Forms.{modeOf}
-use borrow.Author.Needs.{needs}
 use Rattle.direct.proofs.branch.branch.Statement.{statement}
 use Rattle.direct.proofs.branch.branch.Tie as tie
-use Rattle.direct.proofs.branch.branch.Reads as reads
-use Rattle.direct.proofs.branch.branch.Lts as lts
-use Rattle.direct.proofs.branch.is_taken.Reads as is-taken-reads
-use Rattle.accumulate.proofs.finish.done.Reads as done-reads
-use Rattle.effect.proofs.cs_of.Reads as cs-of-reads
-use Rattle.effect.proofs.following.Reads as following-reads
-
-cs-of-requires : tie.Need-cs-of-requires
-cs-of-requires c κs = search needs
-
-is-taken-requires : tie.Need-is-taken-requires
-is-taken-requires c κs = search needs
-
-done-requires : tie.Need-done-requires
-done-requires c κs = search needs
+use Rattle.isa.specs.Addressing.{inMemory}
+use Rattle.isa.specs.Effects.{effect, jumped, following}
+use Rattle.isa.specs.Fields.{withRegisters}
+use Rattle.isa.specs.Mil1750.{contextOf}
+use Rattle.machine.specs.State.{csOf, joined}
+use borrow.Author.Needs.{needs}
+use mathlib.Core.Bool.{true, false}
+use mathlib.Core.Path.{_≡_, refl, sym, ap, _∙_}
+use native.Mathlib.Omega.{arith}
 
 returns : tie.Need-returns
 unfolding contextOf effect jumped following withRegisters
 returns c = let t : isTaken (c .before .before .before .before .args .n) (csOf (c .before .before .before .before .args .core .sw)) ≡ true = rw (← c .before .before .before .cs-of .ensures, ← c .before .before .is-taken .ensures) (c .before .if1 .taken) in λ regs memory pages. idle-done (joined (c .before .before .before .before .args .core) regs) memory pages (c .before .before .before .before .args .n) (way-user (c .before .before .before .before .args .n) 4 (c .before .before .before .before .pre) (omega arith)) (way-reads (c .before .before .before .before .args .n) 4 0 0 (c .before .before .before .before .pre) (omega arith) refl refl refl refl refl regs) (inMemory (modeOf (c .before .before .before .before .args .n .form))) (way-writes (c .before .before .before .before .args .n) 4 0 0 (c .before .before .before .before .pre) (omega arith) refl refl refl refl refl regs) (jumped (contextOf (joined (c .before .before .before .before .args .core) regs)) (c .before .before .before .before .args .n) true) _ _ _ (does-branch (c .before .before .before .before .args .n) (c .before .before .before .before .pre) _ _ ∙ ap (λ b. jumped (contextOf (joined (c .before .before .before .before .args .core) regs)) (c .before .before .before .before .args .n) b) t) (c .done .ensures .0) (c .done .ensures .1 regs (jumped (contextOf (joined (c .before .before .before .before .args .core) regs)) (c .before .before .before .before .args .n) true) refl (sym (c .before .before .before .cs-of .ensures)) refl)
-
-following-requires : tie.Need-following-requires
-following-requires c κs = search needs
-
-done-requires-2 : tie.Need-done-requires-2
-done-requires-2 c κs = search needs
 
 returns-2 : tie.Need-returns-2
 unfolding contextOf effect jumped following withRegisters
@@ -47,11 +27,4 @@ returns-2 c = let t : isTaken (c .before .before .before .before .before .args .
 pub branch-spec : {M : Type 1} → statement M
 branch-spec =
     tie.close
-    (tie.spec
-    cs-of-requires
-    is-taken-requires
-    done-requires
-    returns
-    following-requires
-    done-requires-2
-    returns-2)
+    (tie.spec (λ c κs. search needs) (λ c κs. search needs) (λ c κs. search needs) returns (λ c κs. search needs) (λ c κs. search needs) returns-2)

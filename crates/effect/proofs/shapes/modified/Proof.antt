@@ -1,21 +1,15 @@
+-- Written by tools/prove.py from answers/effect.py: answer 98a34a6dbf50, proof 8cc68fbdebcf.
 -- `effect::shapes::modified` meets its contract. Assumes nothing.
-use Rattle.effect.specs.Work.{worked, filled}
-use Rattle.isa.specs.Effects.{following, effect, modified}
-use mathlib.Core.Path.{_≡_, refl, sym, ap, _∙_}
-use Prim.Native.Nat.{_/_, _%_}
-use borrow.Author.Needs.{needs}
 use Rattle.effect.proofs.shapes.modified.Statement.{statement}
 use Rattle.effect.proofs.shapes.modified.Tie as tie
-use Rattle.effect.proofs.shapes.modified.Reads as reads
-use Rattle.effect.proofs.shapes.modified.Lts as lts
-use Rattle.effect.proofs.following.Reads as following-reads
-
-following-requires : tie.Need-following-requires
-following-requires c κs = search needs
+use Rattle.effect.specs.Work.{worked, filled}
+use Rattle.isa.specs.Effects.{following, effect, modified}
+use borrow.Author.Needs.{needs}
+use mathlib.Core.Path.{refl}
 
 returns : tie.Need-returns
 unfolding worked filled following effect modified
 returns c = λ regs sw. rw (← c .following .ensures) refl
 
 pub modified-spec : {M : Type 1} → statement M
-modified-spec = tie.close (tie.spec following-requires returns)
+modified-spec = tie.close (tie.spec (λ c κs. search needs) returns)

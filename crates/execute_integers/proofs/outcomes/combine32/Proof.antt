@@ -1,30 +1,13 @@
+-- Written by tools/prove.py from answers/execute_integers.py: answer 7b958dfdd67e, proof b9be626fee73.
 -- `execute_integers::outcomes::combine32` meets its contract. Assumes nothing.
-use Rattle.execute_integers.specs.Doubles.{arithmetic}
-use mathlib.Core.Path.{_≡_, refl, sym, ap, _∙_}
-use Prim.Native.Nat.{_/_, _%_, _+_}
-use borrow.Author.Tests.{ne-eqb}
-use native.Mathlib.Omega.{arith}
-use borrow.Author.Needs.{needs}
 use Rattle.execute_integers.proofs.outcomes.combine32.Statement.{statement}
 use Rattle.execute_integers.proofs.outcomes.combine32.Tie as tie
+use Rattle.execute_integers.specs.Doubles.{arithmetic}
+use borrow.Author.Needs.{needs}
+use borrow.Author.Tests.{ne-eqb}
 
 pair-at-requires : tie.Need-pair-at-requires
 pair-at-requires c κs = c .pre
-
-double-operand-requires : tie.Need-double-operand-requires
-double-operand-requires c κs = search needs
-
-add32-requires : tie.Need-add32-requires
-add32-requires c κs = search needs
-
-sub32-requires : tie.Need-sub32-requires
-sub32-requires c κs = search needs
-
-multiply32-requires : tie.Need-multiply32-requires
-multiply32-requires c κs = search needs
-
-divide32-requires : tie.Need-divide32-requires
-divide32-requires c κs = search needs
 
 returns : tie.Need-returns
 unfolding arithmetic
@@ -45,14 +28,5 @@ returns-4 c = rw (ne-eqb _ _ (c .before .match .rest .0 .0 .1), ne-eqb _ _ (c .b
 pub combine32-spec : {M : Type 1} → statement M
 combine32-spec =
     tie.close
-    (tie.spec
-    pair-at-requires
-    double-operand-requires
-    add32-requires
-    sub32-requires
-    multiply32-requires
-    divide32-requires
-    returns
-    returns-2
-    returns-3
-    returns-4)
+    (tie.spec pair-at-requires (λ c κs. search needs) (λ c κs. search needs) (λ c κs. search needs) (λ c κs. search needs) (λ c κs. search needs)
+    returns returns-2 returns-3 returns-4)

@@ -1,24 +1,10 @@
+-- Written by tools/prove.py from answers/float_words.py: answer 7499f1ef27aa, proof 543b50e14618.
 -- `float_words::operands::combine` meets its contract. Assumes nothing.
-use Rattle.float_words.specs.Operands.{arithmetic}
-use mathlib.Core.Path.{_≡_, refl, sym, ap, _∙_}
-use Prim.Native.Nat.{_/_, _%_, _+_}
-use borrow.Author.Tests.{ne-eqb}
-use native.Mathlib.Omega.{arith}
-use borrow.Author.Needs.{needs}
 use Rattle.float_words.proofs.operands.combine.Statement.{statement}
 use Rattle.float_words.proofs.operands.combine.Tie as tie
-
-add-requires : tie.Need-add-requires
-add-requires c κs = search needs
-
-subtract-requires : tie.Need-subtract-requires
-subtract-requires c κs = search needs
-
-multiply-requires : tie.Need-multiply-requires
-multiply-requires c κs = search needs
-
-divide-requires : tie.Need-divide-requires
-divide-requires c κs = search needs
+use Rattle.float_words.specs.Operands.{arithmetic}
+use borrow.Author.Needs.{needs}
+use borrow.Author.Tests.{ne-eqb}
 
 returns : tie.Need-returns
 unfolding arithmetic
@@ -39,12 +25,4 @@ returns-4 c = rw (ne-eqb _ _ (c .before .match .rest .0 .0 .1), ne-eqb _ _ (c .b
 pub combine-spec : {M : Type 1} → statement M
 combine-spec =
     tie.close
-    (tie.spec
-    add-requires
-    subtract-requires
-    multiply-requires
-    divide-requires
-    returns
-    returns-2
-    returns-3
-    returns-4)
+    (tie.spec (λ c κs. search needs) (λ c κs. search needs) (λ c κs. search needs) (λ c κs. search needs) returns returns-2 returns-3 returns-4)

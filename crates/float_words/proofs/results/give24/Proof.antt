@@ -1,27 +1,9 @@
+-- Written by tools/prove.py from answers/float_words.py: answer 99d8bff20949, proof f83817bd3faf.
 -- `float_words::results::give24` meets its contract. Assumes nothing.
-use Rattle.isa.specs.Floats.{float24}
-use mathlib.Core.Path.{_≡_, refl, sym, ap, _∙_}
-use Prim.Native.Nat.{_/_, _%_, _+_}
-use borrow.Author.Tests.{ne-eqb}
-use native.Mathlib.Omega.{arith}
-use borrow.Author.Needs.{needs}
 use Rattle.float_words.proofs.results.give24.Statement.{statement}
 use Rattle.float_words.proofs.results.give24.Tie as tie
-
-first-word-requires : tie.Need-first-word-requires
-first-word-requires c κs = search needs
-
-second-word-requires : tie.Need-second-word-requires
-second-word-requires c κs = search needs
-
-status-requires : tie.Need-status-requires
-status-requires c κs = search needs
-
-float-faults-requires : tie.Need-float-faults-requires
-float-faults-requires c κs = search needs
-
-result2-requires : tie.Need-result2-requires
-result2-requires c κs = search needs
+use Rattle.isa.specs.Floats.{float24}
+use borrow.Author.Needs.{needs}
 
 returns : tie.Need-returns
 unfolding float24
@@ -30,10 +12,4 @@ returns c = λ regs sw. rw (← c .before .before .before .before .first-word .e
 pub give24-spec : {M : Type 1} → statement M
 give24-spec =
     tie.close
-    (tie.spec
-    first-word-requires
-    second-word-requires
-    status-requires
-    float-faults-requires
-    result2-requires
-    returns)
+    (tie.spec (λ c κs. search needs) (λ c κs. search needs) (λ c κs. search needs) (λ c κs. search needs) (λ c κs. search needs) returns)

@@ -1,30 +1,9 @@
+-- Written by tools/prove.py from answers/float_words.py: answer 3adec1a510d9, proof 1c636f750729.
 -- `float_words::results::give40` meets its contract. Assumes nothing.
-use Rattle.isa.specs.Floats.{float40}
-use mathlib.Core.Path.{_≡_, refl, sym, ap, _∙_}
-use Prim.Native.Nat.{_/_, _%_, _+_}
-use borrow.Author.Tests.{ne-eqb}
-use native.Mathlib.Omega.{arith}
-use borrow.Author.Needs.{needs}
 use Rattle.float_words.proofs.results.give40.Statement.{statement}
 use Rattle.float_words.proofs.results.give40.Tie as tie
-
-first-word-requires : tie.Need-first-word-requires
-first-word-requires c κs = search needs
-
-second-word-requires : tie.Need-second-word-requires
-second-word-requires c κs = search needs
-
-third-word-requires : tie.Need-third-word-requires
-third-word-requires c κs = search needs
-
-status-requires : tie.Need-status-requires
-status-requires c κs = search needs
-
-float-faults-requires : tie.Need-float-faults-requires
-float-faults-requires c κs = search needs
-
-result3-requires : tie.Need-result3-requires
-result3-requires c κs = search needs
+use Rattle.isa.specs.Floats.{float40}
+use borrow.Author.Needs.{needs}
 
 returns : tie.Need-returns
 unfolding float40
@@ -33,11 +12,5 @@ returns c = λ regs sw. rw (← c .before .before .before .before .before .first
 pub give40-spec : {M : Type 1} → statement M
 give40-spec =
     tie.close
-    (tie.spec
-    first-word-requires
-    second-word-requires
-    third-word-requires
-    status-requires
-    float-faults-requires
-    result3-requires
+    (tie.spec (λ c κs. search needs) (λ c κs. search needs) (λ c κs. search needs) (λ c κs. search needs) (λ c κs. search needs) (λ c κs. search needs)
     returns)

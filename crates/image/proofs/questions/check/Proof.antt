@@ -1,17 +1,11 @@
+-- Written by tools/prove.py from answers/image.py: answer 7d159b673389, proof 90f05e147fc2.
 -- `image::questions::check` meets its contract. Assumes nothing.
-use mathlib.Core.Path.{refl}
-use borrow.Author.Tests.{eq-eqb, ne-eqb, not-true, not-false}
-use Rattle.image.specs.Image.{asked, admission}
-use borrow.Author.Needs.{needs}
 use Rattle.image.proofs.questions.check.Statement.{statement}
 use Rattle.image.proofs.questions.check.Tie as tie
-use Rattle.image.proofs.questions.check.Reads as reads
-use Rattle.image.proofs.questions.check.Lts as lts
-use Rattle.image.proofs.questions.check_image.Reads as check-image-reads
-use Rattle.image.proofs.questions.whole_pages.Reads as whole-pages-reads
-
-whole-pages-requires : tie.Need-whole-pages-requires
-whole-pages-requires c κs = search needs
+use Rattle.image.specs.Image.{asked, admission}
+use borrow.Author.Needs.{needs}
+use borrow.Author.Tests.{eq-eqb, ne-eqb, not-true, not-false}
+use mathlib.Core.Path.{refl}
 
 returns : tie.Need-returns
 unfolding admission asked
@@ -25,9 +19,6 @@ returns-3 : tie.Need-returns-3
 unfolding admission asked
 returns-3 c = rw (← c .before .before .before .whole-pages .ensures, not-false (c .before .before .before .whole-pages .result) (c .before .before .if1 .left), eq-eqb _ _ (c .before .if2 .left), ne-eqb _ _ (c .if3 .taken)) refl
 
-check-image-requires : tie.Need-check-image-requires
-check-image-requires c κs = search needs
-
 returns-4 : tie.Need-returns-4
 unfolding admission asked
 returns-4 c = rw (← c .before .before .before .before .whole-pages .ensures, not-false (c .before .before .before .before .whole-pages .result) (c .before .before .before .if1 .left), eq-eqb _ _ (c .before .before .if2 .left), eq-eqb _ _ (c .before .if3 .left)) (c .check-image .ensures)
@@ -35,4 +26,4 @@ returns-4 c = rw (← c .before .before .before .before .whole-pages .ensures, n
 pub check-spec : {M : Type 1} → statement M
 check-spec =
     tie.close
-    (tie.spec whole-pages-requires returns returns-2 returns-3 check-image-requires returns-4)
+    (tie.spec (λ c κs. search needs) returns returns-2 returns-3 (λ c κs. search needs) returns-4)

@@ -1,16 +1,13 @@
+-- Written by tools/prove.py from answers/image.py: answer 1bc970d07836, proof 61e3ef8016be.
 -- `image::questions::check_entries` meets its contract. Assumes nothing.
 use Prim.Native.Nat.{_+_}
-use mathlib.Core.Path.{_≡_, refl, sym, _∙_}
-use native.Mathlib.Omega.{arith}
-use Rattle.image.specs.Image.{entriesAnswer}
 use Rattle.image.proofs.QuestionLaws.{entries-none, entries-on, entries-out}
-use borrow.Author.Needs.{needs}
 use Rattle.image.proofs.questions.check_entries.Statement.{statement}
 use Rattle.image.proofs.questions.check_entries.Tie as tie
-use Rattle.image.proofs.questions.check_entries.Reads as reads
-use Rattle.image.proofs.questions.check_entries.Lts as lts
-use Rattle.image.proofs.questions.check_entry.Reads as check-entry-reads
-use Rattle.image.proofs.questions.number.Reads as number-reads
+use Rattle.image.specs.Image.{entriesAnswer}
+use borrow.Author.Needs.{needs}
+use mathlib.Core.Path.{_≡_, refl, sym, _∙_}
+use native.Mathlib.Omega.{arith}
 
 abbrev Inv-loop : tie.InvT-loop
 Inv-loop image memory n k₀ left₀ k left = (k + left ≡ n) × (entriesAnswer memory image n 0 ≡ entriesAnswer memory image left k)
@@ -48,15 +45,4 @@ returns-2 c = sym (c .before .loop .inv .1 ∙ entries-none _ _ _ _ (c .loop-tes
 pub check-entries-spec : {M : Type 1} → statement M
 check-entries-spec =
     tie.close
-    (tie.spec
-    Inv-loop
-    μ-loop
-    loop-holds
-    check-entry-requires
-    number-requires
-    returns
-    add-k
-    sub-left
-    loop-less
-    loop-again
-    returns-2)
+    (tie.spec Inv-loop μ-loop loop-holds check-entry-requires number-requires returns add-k sub-left loop-less loop-again returns-2)

@@ -1,16 +1,13 @@
+-- Written by tools/prove.py from answers/image.py: answer dc68cb90a0a2, proof f50f2145a455.
 -- `image::questions::shares_earlier` meets its contract. Assumes nothing.
 use Prim.Native.Nat.{_≤_}
-use mathlib.Core.Path.{_≡_, refl, sym, _∙_}
-use native.Mathlib.Omega.{arith}
-use Rattle.image.specs.Image.{sharesEarlier}
 use Rattle.image.proofs.QuestionLaws.{shares-none, shares-here, shares-on}
-use borrow.Author.Needs.{needs}
 use Rattle.image.proofs.questions.shares_earlier.Statement.{statement}
 use Rattle.image.proofs.questions.shares_earlier.Tie as tie
-use Rattle.image.proofs.questions.shares_earlier.Reads as reads
-use Rattle.image.proofs.questions.shares_earlier.Lts as lts
-use Rattle.image.proofs.questions.shares.Reads as shares-reads
-use Rattle.image.proofs.table.entry_at.Reads as entry-at-reads
+use Rattle.image.specs.Image.{sharesEarlier}
+use borrow.Author.Needs.{needs}
+use mathlib.Core.Path.{_≡_, refl, sym, _∙_}
+use native.Mathlib.Omega.{arith}
 
 abbrev Inv-loop : tie.InvT-loop
 Inv-loop image e k left₀ left = (left ≤ k) × (sharesEarlier image e k ≡ sharesEarlier image e left)
@@ -45,14 +42,4 @@ returns-2 c = sym (c .before .loop .inv .1 ∙ shares-none _ _ _ (c .loop-test .
 pub shares-earlier-spec : {M : Type 1} → statement M
 shares-earlier-spec =
     tie.close
-    (tie.spec
-    Inv-loop
-    μ-loop
-    loop-holds
-    sub-left
-    entry-at-requires
-    shares-requires
-    returns
-    loop-less
-    loop-again
-    returns-2)
+    (tie.spec Inv-loop μ-loop loop-holds sub-left entry-at-requires shares-requires returns loop-less loop-again returns-2)

@@ -1,12 +1,10 @@
+-- Written by tools/prove.py from answers/image.py: answer 93b71ecf021a, proof e14dc310eff6.
 -- `image::questions::target_size` meets its contract. Assumes nothing.
-use mathlib.Core.Path.{refl}
-use borrow.Author.Tests.{ne-eqb}
-use Rattle.image.specs.Image.{targetSize}
-use borrow.Author.Needs.{needs}
 use Rattle.image.proofs.questions.target_size.Statement.{statement}
 use Rattle.image.proofs.questions.target_size.Tie as tie
-use Rattle.image.proofs.questions.target_size.Reads as reads
-use Rattle.image.proofs.questions.target_size.Lts as lts
+use Rattle.image.specs.Image.{targetSize}
+use borrow.Author.Tests.{ne-eqb}
+use mathlib.Core.Path.{refl}
 
 returns : tie.Need-returns
 unfolding targetSize

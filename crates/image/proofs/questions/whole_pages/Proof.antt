@@ -1,12 +1,10 @@
+-- Written by tools/prove.py from answers/image.py: answer 75d9d5c17ed6, proof 061132a19063.
 -- `image::questions::whole_pages` meets its contract. Assumes nothing.
-use mathlib.Core.Path.{refl}
-use borrow.Author.Tests.{eq-eqb, ne-eqb, le-leb, lt-leb}
-use Rattle.machine.specs.Runs.{wholePages}
-use borrow.Author.Needs.{needs}
 use Rattle.image.proofs.questions.whole_pages.Statement.{statement}
 use Rattle.image.proofs.questions.whole_pages.Tie as tie
-use Rattle.image.proofs.questions.whole_pages.Reads as reads
-use Rattle.image.proofs.questions.whole_pages.Lts as lts
+use Rattle.machine.specs.Runs.{wholePages}
+use borrow.Author.Tests.{eq-eqb, ne-eqb, le-leb, lt-leb}
+use mathlib.Core.Path.{refl}
 
 returns : tie.Need-returns
 unfolding wholePages

@@ -1,33 +1,10 @@
+-- Written by tools/prove.py from answers/image.py: answer 1731c94d8dec, proof 970d4906d8a1.
 -- `image::table::long_at` meets its contract. Assumes nothing.
-use mathlib.Core.Path.{refl}
-use Rattle.image.specs.Image.{longAt}
-use borrow.Author.Needs.{needs}
 use Rattle.image.proofs.table.long_at.Statement.{statement}
 use Rattle.image.proofs.table.long_at.Tie as tie
-use Rattle.image.proofs.table.long_at.Reads as reads
-use Rattle.image.proofs.table.long_at.Lts as lts
-use Rattle.image.proofs.table.word_at.Reads as word-at-reads
-
-word-at-requires : tie.Need-word-at-requires
-word-at-requires c κs = search needs
-
-cast-result : tie.Need-cast-result
-cast-result c = search needs
-
-mul-result : tie.Need-mul-result
-mul-result c = search needs
-
-add-word-at : tie.Need-add-word-at
-add-word-at c = search needs
-
-word-at-requires-2 : tie.Need-word-at-requires-2
-word-at-requires-2 c κs = search needs
-
-cast-result-2 : tie.Need-cast-result-2
-cast-result-2 c = search needs
-
-add-result : tie.Need-add-result
-add-result c = search needs
+use Rattle.image.specs.Image.{longAt}
+use borrow.Author.Needs.{needs}
+use mathlib.Core.Path.{refl}
 
 returns : tie.Need-returns
 unfolding longAt
@@ -36,12 +13,5 @@ returns c = rw (c .before .word-at .ensures, c .word-at2 .ensures) refl
 pub long-at-spec : {M : Type 1} → statement M
 long-at-spec =
     tie.close
-    (tie.spec
-    word-at-requires
-    cast-result
-    mul-result
-    add-word-at
-    word-at-requires-2
-    cast-result-2
-    add-result
-    returns)
+    (tie.spec (λ c κs. search needs) (λ c. search needs) (λ c. search needs) (λ c. search needs) (λ c κs. search needs) (λ c. search needs)
+    (λ c. search needs) returns)

@@ -1,15 +1,13 @@
+-- Written by tools/prove.py from answers/image.py: answer 29cb63b62b11, proof 32c0559313a7.
 -- `image::table::words_before` meets its contract. Assumes nothing.
 use Prim.Native.Nat.{_-_, _*_, _≤_}
-use mathlib.Core.Path.{_≡_, refl, ap, _∙_}
-use native.Mathlib.Omega.{arith}
-use Rattle.image.specs.Image.{wordsBefore}
 use Rattle.image.proofs.QuestionLaws.{words-more}
-use borrow.Author.Needs.{needs}
 use Rattle.image.proofs.table.words_before.Statement.{statement}
 use Rattle.image.proofs.table.words_before.Tie as tie
-use Rattle.image.proofs.table.words_before.Reads as reads
-use Rattle.image.proofs.table.words_before.Lts as lts
-use Rattle.image.proofs.table.entry_at.Reads as entry-at-reads
+use Rattle.image.specs.Image.{wordsBefore}
+use borrow.Author.Needs.{needs}
+use mathlib.Core.Path.{_≡_, refl, ap, _∙_}
+use native.Mathlib.Omega.{arith}
 
 abbrev Inv-loop : tie.InvT-loop
 Inv-loop image n total₀ k₀ total k = (k ≤ n) × (total ≡ wordsBefore image k) × (total ≤ 4294967296 * k)
@@ -45,14 +43,4 @@ returns c = (c .before .loop .inv .1 ∙ ap (wordsBefore _) (omega arith), omega
 pub words-before-spec : {M : Type 1} → statement M
 words-before-spec =
     tie.close
-    (tie.spec
-    Inv-loop
-    μ-loop
-    loop-holds
-    entry-at-requires
-    cast-total
-    add-total
-    add-k
-    loop-less
-    loop-again
-    returns)
+    (tie.spec Inv-loop μ-loop loop-holds entry-at-requires cast-total add-total add-k loop-less loop-again returns)

@@ -1,8 +1,9 @@
+-- Written by tools/prove.py from answers/interrupt.py: answer 1219c33cd0e6, proof 47553e1bebbc.
 -- `interrupt::pending::take` meets its contract. Assumes nothing.
-use mathlib.Core.Path.{refl}
-use Rattle.machine.specs.Entries.{takeable}
 use Rattle.interrupt.proofs.pending.take.Statement.{statement}
 use Rattle.interrupt.proofs.pending.take.Tie as tie
+use Rattle.machine.specs.Entries.{takeable}
+use mathlib.Core.Path.{refl}
 
 returns : tie.Need-returns
 unfolding takeable

@@ -1,14 +1,9 @@
+-- Written by tools/prove.py from answers/interrupt.py: answer 9254d8d206f6, proof 0511ba2a6cae.
 -- `interrupt::pointers::fault_of` meets its contract. Assumes nothing.
-use Rattle.machine.specs.Entries.{faultOf}
-use borrow.Author.Needs.{needs}
 use Rattle.interrupt.proofs.pointers.fault_of.Statement.{statement}
 use Rattle.interrupt.proofs.pointers.fault_of.Tie as tie
-
-enum-told : tie.Need-enum-told
-enum-told c = search needs
-
-enum-known-got : tie.Need-enum-known-got
-enum-known-got c = search needs
+use Rattle.machine.specs.Entries.{faultOf}
+use borrow.Author.Needs.{needs}
 
 returns : tie.Need-returns
 unfolding faultOf
@@ -19,4 +14,4 @@ unfolding faultOf
 returns-2 c = cc
 
 pub fault-of-spec : {M : Type 1} → statement M
-fault-of-spec = tie.close (tie.spec enum-told enum-known-got returns returns-2)
+fault-of-spec = tie.close (tie.spec (λ c. search needs) (λ c. search needs) returns returns-2)

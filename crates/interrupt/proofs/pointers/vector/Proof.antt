@@ -1,25 +1,9 @@
+-- Written by tools/prove.py from answers/interrupt.py: answer 4072dea756a8, proof 9e869b80528a.
 -- `interrupt::pointers::vector` meets its contract. Assumes nothing.
-use mathlib.Core.Path.{_≡_, refl, sym, ap, _∙_}
-use Rattle.interrupt.specs.Founds.{foundOr}
-use borrow.Author.Needs.{needs}
 use Rattle.interrupt.proofs.pointers.vector.Statement.{statement}
 use Rattle.interrupt.proofs.pointers.vector.Tie as tie
-use Rattle.interrupt.proofs.pointers.vector.Reads as reads
-use Rattle.interrupt.proofs.pointers.vector.Lts as lts
-use Rattle.interrupt.proofs.pointers.vector_each.Reads as vector-each-reads
-use Rattle.interrupt.proofs.pointers.vector_found.Reads as vector-found-reads
-
-vector-found-requires : tie.Need-vector-found-requires
-vector-found-requires c κs = search needs
-
-enum-known-found : tie.Need-enum-known-found
-enum-known-found c = search needs
-
-enum-told : tie.Need-enum-told
-enum-told c = search needs
-
-vector-each-requires : tie.Need-vector-each-requires
-vector-each-requires c κs = search needs
+use Rattle.interrupt.specs.Founds.{foundOr}
+use borrow.Author.Needs.{needs}
 
 returns : tie.Need-returns
 unfolding foundOr
@@ -32,10 +16,4 @@ returns-2 c = c .vector-each .ensures
 pub vector-spec : {M : Type 1} → statement M
 vector-spec =
     tie.close
-    (tie.spec
-    vector-found-requires
-    enum-known-found
-    enum-told
-    vector-each-requires
-    returns
-    returns-2)
+    (tie.spec (λ c κs. search needs) (λ c. search needs) (λ c. search needs) (λ c κs. search needs) returns returns-2)

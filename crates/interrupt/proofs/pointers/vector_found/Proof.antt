@@ -1,28 +1,13 @@
+-- Written by tools/prove.py from answers/interrupt.py: answer 587997bc032f, proof 24170702dc8e.
 -- `interrupt::pointers::vector_found` meets its contract. Assumes nothing.
-use mathlib.Core.Path.{_≡_, refl, sym, ap, _∙_}
-use native.Mathlib.Omega.{arith}
 use Prim.Native.Nat.{_+_, _*_}
 use Rattle.interrupt.proofs.VectorLaws.{inside-at, room-before, inside-before, vector-together}
-use Rattle.interrupt.specs.Founds.{foundOr}
-use borrow.Author.Needs.{needs}
 use Rattle.interrupt.proofs.pointers.vector_found.Statement.{statement}
 use Rattle.interrupt.proofs.pointers.vector_found.Tie as tie
-use Rattle.interrupt.proofs.pointers.vector_found.Reads as reads
-use Rattle.interrupt.proofs.pointers.vector_found.Lts as lts
-use Rattle.page.proofs.lookup.look_up.Reads as look-up-reads
-use Rattle.std.proofs.num.wrapping_add_u16.Reads as wrapping-add-u16-reads
-
-mul-look-up : tie.Need-mul-look-up
-mul-look-up c = search needs
-
-add-look-up : tie.Need-add-look-up
-add-look-up c = search needs
-
-look-up-requires : tie.Need-look-up-requires
-look-up-requires c κs = search needs
-
-enum-known-service : tie.Need-enum-known-service
-enum-known-service c = search needs
+use Rattle.interrupt.specs.Founds.{foundOr}
+use borrow.Author.Needs.{needs}
+use mathlib.Core.Path.{refl, sym, _∙_}
+use native.Mathlib.Omega.{arith}
 
 mul-base : tie.Need-mul-base
 mul-base c = omega (arith, inside-at (c .before .before .before .before .before .before .args .memory .now) (c .before .before .before .before .before .before .args .pages .now) _ _ (sym (c .before .before .before .look-up .ensures) ∙ c .before .service .given .1))
@@ -30,18 +15,9 @@ mul-base c = omega (arith, inside-at (c .before .before .before .before .before 
 shared-slice-read-base : tie.Need-shared-slice-read-base
 shared-slice-read-base c = search (needs, inside-at (c .before .before .before .before .before .before .before .args .memory .now) (c .before .before .before .before .before .before .before .args .pages .now) _ _ (sym (c .before .before .before .before .look-up .ensures) ∙ c .before .before .service .given .1))
 
-wrapping-add-u16-requires : tie.Need-wrapping-add-u16-requires
-wrapping-add-u16-requires c κs = search needs
-
 returns : tie.Need-returns
 unfolding foundOr
 returns c = refl
-
-look-up-requires-2 : tie.Need-look-up-requires-2
-look-up-requires-2 c κs = search needs
-
-enum-known-last : tie.Need-enum-known-last
-enum-known-last c = search needs
 
 sub-link : tie.Need-sub-link
 sub-link c = omega (arith, room-before (c .before .before .before .before .before .before .before .before .before .before .before .before .before .args .memory .now) (c .before .before .before .before .before .before .before .before .before .before .before .before .before .args .pages .now) (33 + 2 * c .before .before .before .before .before .before .before .before .before .before .before .before .before .args .n) _ 1 (omega arith) (sym (c .before .before .before .before .before .before .before .before .before .before .look-up .ensures) ∙ c .before .before .before .before .before .before .before .before .service .given .1) 1 (omega arith))
@@ -76,12 +52,6 @@ mul-ic c = omega (arith, inside-at (c .before .before .before .before .before .b
 shared-slice-read-ic : tie.Need-shared-slice-read-ic
 shared-slice-read-ic c = search (needs, inside-at (c .before .before .before .before .before .before .before .before .before .before .before .before .before .before .before .before .before .args .memory .now) (c .before .before .before .before .before .before .before .before .before .before .before .before .before .before .before .before .before .args .pages .now) _ _ (sym (c .before .before .before .before .before .before .before .look-up2 .ensures) ∙ c .before .before .before .before .before .last .given .1))
 
-enum-told : tie.Need-enum-told
-enum-told c = search needs
-
-enum-told-2 : tie.Need-enum-told-2
-enum-told-2 c = search needs
-
 returns-2 : tie.Need-returns-2
 unfolding foundOr
 returns-2 c = sym (vector-together (c .before .before .before .before .before .before .before .before .before .before .before .before .before .before .before .before .before .args .memory .now) (c .before .before .before .before .before .before .before .before .before .before .before .before .before .before .before .before .before .args .pages .now) (c .before .before .before .before .before .before .before .before .before .before .before .before .before .before .before .before .before .args .n) _ _ _ (omega arith) (sym (c .before .before .before .before .before .before .before .before .before .before .before .before .before .before .look-up .ensures) ∙ c .before .before .before .before .before .before .before .before .before .before .before .before .service .given .1) (c .before .before .before .before .before .before .before .before .before .wrapping-add-u16 .ensures) (c .before .before .before .before .before .before .before .before .if1 .left) (sym (c .before .before .before .before .before .before .before .look-up2 .ensures) ∙ c .before .before .before .before .before .last .given .1))
@@ -97,30 +67,6 @@ returns-4 c = refl
 pub vector-found-spec : {M : Type 1} → statement M
 vector-found-spec =
     tie.close
-    (tie.spec
-    mul-look-up
-    add-look-up
-    look-up-requires
-    enum-known-service
-    mul-base
-    shared-slice-read-base
-    wrapping-add-u16-requires
-    returns
-    look-up-requires-2
-    enum-known-last
-    sub-link
-    mul-link
-    shared-slice-read-link
-    sub-mk
-    mul-mk
-    shared-slice-read-mk
-    sub-sw
-    mul-sw
-    shared-slice-read-sw
-    mul-ic
-    shared-slice-read-ic
-    enum-told
-    enum-told-2
-    returns-2
-    returns-3
-    returns-4)
+    (tie.spec (λ c. search needs) (λ c. search needs) (λ c κs. search needs) (λ c. search needs) mul-base shared-slice-read-base (λ c κs. search needs)
+    returns (λ c κs. search needs) (λ c. search needs) sub-link mul-link shared-slice-read-link sub-mk mul-mk shared-slice-read-mk sub-sw mul-sw
+    shared-slice-read-sw mul-ic shared-slice-read-ic (λ c. search needs) (λ c. search needs) returns-2 returns-3 returns-4)

@@ -1,15 +1,8 @@
 -- `one_page::here::try_block` meets its contract. Assumes nothing.
-use mathlib.Core.Path.{_≡_, refl, sym, ap, _∙_}
-use borrow.Author.Needs.{needs}
 use Rattle.one_page.proofs.here.try_block.Statement.{statement}
 use Rattle.one_page.proofs.here.try_block.Tie as tie
-use Rattle.one_page.proofs.here.try_block.Reads as reads
-use Rattle.one_page.proofs.here.try_block.Lts as lts
-use Rattle.one_page.proofs.here.try_load.Reads as try-load-reads
-use Rattle.one_page.proofs.here.try_move.Reads as try-move-reads
-use Rattle.one_page.proofs.here.try_pop.Reads as try-pop-reads
-use Rattle.one_page.proofs.here.try_push.Reads as try-push-reads
-use Rattle.one_page.proofs.here.try_store.Reads as try-store-reads
+use borrow.Author.Needs.{needs}
+use mathlib.Core.Path.{refl}
 
 try-load-requires : tie.Need-try-load-requires
 try-load-requires c κs = (c .before .before .before .before .before .before .pre .0, c .before .before .before .before .before .before .pre .1, c .before .before .before .before .before .before .pre .2, c .before .before .before .before .before .before .pre .3, c .before .before .match .keys1)
@@ -26,32 +19,17 @@ try-store-requires c κs = (c .before .before .before .before .before .before .p
 try-push-requires : tie.Need-try-push-requires
 try-push-requires c κs = (c .before .before .before .before .before .before .pre .0, c .before .before .before .before .before .before .pre .1, c .before .before .before .before .before .before .pre .2, c .before .before .before .before .before .before .pre .3, c .before .before .match .keys5)
 
-same-length : tie.Need-same-length
-same-length c = search needs
-
 returns : tie.Need-returns
 returns c = c .before .before .try-load .ensures
-
-same-length-2 : tie.Need-same-length-2
-same-length-2 c = search needs
 
 returns-2 : tie.Need-returns-2
 returns-2 c = c .before .before .try-pop .ensures
 
-same-length-3 : tie.Need-same-length-3
-same-length-3 c = search needs
-
 returns-3 : tie.Need-returns-3
 returns-3 c = c .before .before .try-move .ensures
 
-same-length-4 : tie.Need-same-length-4
-same-length-4 c = search needs
-
 returns-4 : tie.Need-returns-4
 returns-4 c = c .before .before .try-store .ensures
-
-same-length-5 : tie.Need-same-length-5
-same-length-5 c = search needs
 
 returns-5 : tie.Need-returns-5
 returns-5 c = c .before .before .try-push .ensures
@@ -62,20 +40,5 @@ returns-6 c = (refl, refl)
 pub try-block-spec : {M : Type 1} → statement M
 try-block-spec =
     tie.close
-    (tie.spec
-    try-load-requires
-    try-pop-requires
-    try-move-requires
-    try-store-requires
-    try-push-requires
-    same-length
-    returns
-    same-length-2
-    returns-2
-    same-length-3
-    returns-3
-    same-length-4
-    returns-4
-    same-length-5
-    returns-5
-    returns-6)
+    (tie.spec try-load-requires try-pop-requires try-move-requires try-store-requires try-push-requires (λ c. search needs) returns (λ c. search needs)
+    returns-2 (λ c. search needs) returns-3 (λ c. search needs) returns-4 (λ c. search needs) returns-5 returns-6)

@@ -1,34 +1,16 @@
+-- Written by tools/prove.py from answers/one_page.py: answer 01e244febfff, proof a4da904e7646.
 -- `one_page::here::try_store` meets its contract. Assumes nothing.
-use mathlib.Core.Path.{_≡_, refl, sym, ap, _∙_}
-use native.Mathlib.Omega.{arith}
-use Rattle.machine.specs.State.{joined}
-use Rattle.one_page.proofs.HereLaws.{row-found, stored-here}
 use Rattle.isa.specs.Blocks.{storedAll}
 use Rattle.isa.specs.Mil1750.{contextOf}
-use borrow.Author.Needs.{needs}
+use Rattle.machine.specs.State.{joined}
+use Rattle.one_page.proofs.HereLaws.{row-found, stored-here}
 use Rattle.one_page.proofs.here.try_store.Statement.{statement}
 use Rattle.one_page.proofs.here.try_store.Tie as tie
-use Rattle.one_page.proofs.here.try_store.Reads as reads
-use Rattle.one_page.proofs.here.try_store.Lts as lts
-use Rattle.access.proofs.fields.field_a.Reads as field-a-reads
-use Rattle.rearrange.proofs.operation.proceed.Reads as proceed-reads
-use Rattle.one_page.proofs.rows.find_row.Reads as find-row-reads
-use Rattle.one_page.proofs.rows.store_row.Reads as store-row-reads
-
-field-a-requires : tie.Need-field-a-requires
-field-a-requires c κs = search needs
-
-add-count : tie.Need-add-count
-add-count c = search needs
+use borrow.Author.Needs.{needs}
+use native.Mathlib.Omega.{arith}
 
 find-row-requires : tie.Need-find-row-requires
 find-row-requires c κs = (c .before .before .before .pre .0, c .before .before .before .pre .3, omega (arith, c .field-a .ensures .1))
-
-enum-known-row : tie.Need-enum-known-row
-enum-known-row c = search needs
-
-enum-told : tie.Need-enum-told
-enum-told c = search needs
 
 returns : tie.Need-returns
 unfolding storedAll contextOf
@@ -37,12 +19,6 @@ returns c = search needs
 store-row-requires : tie.Need-store-row-requires
 store-row-requires c κs = (omega (arith, c .before .before .before .before .before .before .field-a .ensures .1), row-found _ _ _ _ _ _ _ _ _ (c .before .before .before .before .before .find-row .ensures) (c .before .before .before .row .given .1) .2)
 
-proceed-requires : tie.Need-proceed-requires
-proceed-requires c κs = search needs
-
-same-length : tie.Need-same-length
-same-length c = search needs
-
 returns-2 : tie.Need-returns-2
 unfolding storedAll contextOf
 returns-2 c = stored-here (joined (c .before .before .before .before .before .before .before .before .before .before .before .before .before .args .core) (c .before .before .before .before .before .before .before .before .before .before .before .before .before .args .regs .now)) (c .before .before .before .before .before .before .before .before .before .before .before .before .before .args .memory .now) (c .before .before .before .before .before .before .before .before .before .before .before .before .before .args .pages .now) (c .before .before .before .before .before .before .before .before .before .before .before .before .before .args .n) (c .before .before .before .before .before .before .before .before .before .before .before .before .before .pre .4) (c .before .before .before .before .before .before .before .row .given .0 .0) (rw (← c .before .before .before .before .before .before .before .before .before .before .before .before .before .pre .1, ← c .before .before .before .before .before .before .before .before .before .before .before .before .before .pre .2, ← c .before .before .before .before .before .before .before .before .before .before .field-a .ensures .0) (row-found _ _ _ _ _ _ _ _ _ (c .before .before .before .before .before .before .before .before .before .find-row .ensures) (c .before .before .before .before .before .before .before .row .given .1))) _ _ (c .proceed .ensures _ _ _) (rw (← c .before .before .before .before .before .before .before .before .before .before .field-a .ensures .0) (c .before .before .before .store-row .ensures))
@@ -50,14 +26,5 @@ returns-2 c = stored-here (joined (c .before .before .before .before .before .be
 pub try-store-spec : {M : Type 1} → statement M
 try-store-spec =
     tie.close
-    (tie.spec
-    field-a-requires
-    add-count
-    find-row-requires
-    enum-known-row
-    enum-told
-    returns
-    store-row-requires
-    proceed-requires
-    same-length
-    returns-2)
+    (tie.spec (λ c κs. search needs) (λ c. search needs) find-row-requires (λ c. search needs) (λ c. search needs) returns store-row-requires
+    (λ c κs. search needs) (λ c. search needs) returns-2)

@@ -1,18 +1,16 @@
+-- Written by tools/prove.py from answers/one_page.py: answer c050d7512c1b, proof 396356a11bc1.
 -- `one_page::rows::push_row` meets its contract. Assumes nothing.
-use mathlib.Core.Path.{_≡_, refl, sym, ap, _∙_}
-use native.Mathlib.Omega.{arith}
-use Prim.Native.Nat.{ℕ, _+_, _-_, _%_, _≤_, _<_}
-use lib.ListN.{length, length-set, getD, take, drop}
-use Rattle.one_page.specs.Rows.{upwards, downwards, storedAt}
+use Prim.Native.Nat.{_+_}
 use Rattle.isa.specs.Blocks.{pushedFrom}
-use Rattle.rearrange.proofs.BlockLaws.{pushed-at}
 use Rattle.one_page.proofs.HereLaws.{stored-none, stored-step}
-use borrow.Author.Needs.{needs}
 use Rattle.one_page.proofs.rows.push_row.Statement.{statement}
 use Rattle.one_page.proofs.rows.push_row.Tie as tie
-use Rattle.one_page.proofs.rows.push_row.Reads as reads
-use Rattle.one_page.proofs.rows.push_row.Lts as lts
-use Rattle.block.proofs.stores.pushed_word.Reads as pushed-word-reads
+use Rattle.one_page.specs.Rows.{downwards, storedAt}
+use Rattle.rearrange.proofs.BlockLaws.{pushed-at}
+use borrow.Author.Needs.{needs}
+use lib.ListN.{length, length-set}
+use mathlib.Core.Path.{_≡_, refl, sym, _∙_}
+use native.Mathlib.Omega.{arith}
 
 abbrev Inv-loop : tie.InvT-loop
 Inv-loop regs memory₀ p b count i₀ left₀ memory i left = (i + left ≡ count) × (length memory ≡ length memory₀) × (storedAt (downwards p) (pushedFrom regs b count 0) count 0 memory₀ ≡ storedAt (downwards p) (pushedFrom regs b count 0) left i memory)
@@ -65,20 +63,5 @@ returns c = sym (c .before .loop .inv .2 ∙ stored-none _ _ _ _ _ (c .loop-test
 pub push-row-spec : {M : Type 1} → statement M
 push-row-spec =
     tie.close
-    (tie.spec
-    Inv-loop
-    μ-loop
-    loop-holds
-    cast-number
-    sub-number
-    add-pushed-word
-    sub-pushed-word
-    pushed-word-requires
-    mul-memory
-    slice-write-memory
-    add-i
-    sub-left
-    loop-less
-    loop-again
-    same-length
-    returns)
+    (tie.spec Inv-loop μ-loop loop-holds cast-number sub-number add-pushed-word sub-pushed-word pushed-word-requires mul-memory slice-write-memory
+    add-i sub-left loop-less loop-again same-length returns)

@@ -1,15 +1,14 @@
+-- Written by tools/prove.py from answers/one_page.py: answer 28fb86220c4b, proof dda4008d54f9.
 -- `one_page::rows::store_row` meets its contract. Assumes nothing.
-use mathlib.Core.Path.{_≡_, refl, sym, ap, _∙_}
-use native.Mathlib.Omega.{arith}
-use Prim.Native.Nat.{ℕ, _+_, _-_, _%_, _≤_, _<_}
-use lib.ListN.{length, length-set, getD, take, drop}
-use Rattle.one_page.specs.Rows.{upwards, downwards, storedAt}
+use Prim.Native.Nat.{_+_, _≤_}
 use Rattle.one_page.proofs.HereLaws.{stored-none, stored-step}
-use borrow.Author.Needs.{needs}
 use Rattle.one_page.proofs.rows.store_row.Statement.{statement}
 use Rattle.one_page.proofs.rows.store_row.Tie as tie
-use Rattle.one_page.proofs.rows.store_row.Reads as reads
-use Rattle.one_page.proofs.rows.store_row.Lts as lts
+use Rattle.one_page.specs.Rows.{upwards, storedAt}
+use borrow.Author.Needs.{needs}
+use lib.ListN.{length, length-set}
+use mathlib.Core.Path.{_≡_, refl, sym, _∙_}
+use native.Mathlib.Omega.{arith}
 
 abbrev Inv-loop : tie.InvT-loop
 Inv-loop regs memory₀ p count i₀ left₀ memory i left = (i + left ≤ 16) × (p + i + left ≤ length memory₀) × (length memory ≡ length memory₀) × (storedAt (upwards p) regs count 0 memory₀ ≡ storedAt (upwards p) regs left i memory)
@@ -56,18 +55,5 @@ returns c = sym (c .before .loop .inv .3 ∙ stored-none _ _ _ _ _ (c .loop-test
 pub store-row-spec : {M : Type 1} → statement M
 store-row-spec =
     tie.close
-    (tie.spec
-    Inv-loop
-    μ-loop
-    loop-holds
-    add-number
-    mul-memory
-    element-copy-out-memory
-    mul-memory-2
-    slice-write-memory
-    add-i
-    sub-left
-    loop-less
-    loop-again
-    same-length
-    returns)
+    (tie.spec Inv-loop μ-loop loop-holds add-number mul-memory element-copy-out-memory mul-memory-2 slice-write-memory add-i sub-left loop-less
+    loop-again same-length returns)

@@ -1,26 +1,19 @@
+-- Written by tools/prove.py from answers/rearrange.py: answer bdbaa1eeb1e2, proof 4e36ac75fa8e.
 -- `rearrange::operation::rearrange` meets its contract. Assumes nothing.
-use mathlib.Core.Path.{_≡_, refl, sym, ap, _∙_}
-use native.Mathlib.Omega.{arith}
-use Rattle.isa.specs.Fields.{fieldA, registersFrom}
-use mathlib.Core.List.{List, [], _∷_}
-use mathlib.Core.Bool.{true, false, false≢true}
+use Prim.Native.Nat.{_%_}
 use Rattle.choice.proofs.SelectLaws.{otherwise}
-use Prim.Native.Nat.{ℕ, _+_, _-_, _%_, _≤_, _<_}
 use Rattle.isa.specs.Blocks.{storedAll}
-use Rattle.isa.specs.Mil1750.{contextOf}
-use Rattle.rearrange.specs.Operation.{isBlock}
 use Rattle.isa.specs.Execute.{executed}
-use borrow.Author.Needs.{needs}
+use Rattle.isa.specs.Fields.{fieldA, registersFrom}
+use Rattle.isa.specs.Mil1750.{contextOf}
 use Rattle.rearrange.proofs.operation.rearrange.Statement.{statement}
 use Rattle.rearrange.proofs.operation.rearrange.Tie as tie
-use Rattle.rearrange.proofs.operation.rearrange.Reads as reads
-use Rattle.rearrange.proofs.operation.rearrange.Lts as lts
-use Rattle.rearrange.proofs.operation.exchange_words.Reads as exchange-words-reads
-use Rattle.rearrange.proofs.operation.load_multiple.Reads as load-multiple-reads
-use Rattle.rearrange.proofs.operation.move_word.Reads as move-word-reads
-use Rattle.rearrange.proofs.operation.pop_multiple.Reads as pop-multiple-reads
-use Rattle.rearrange.proofs.operation.proceed.Reads as proceed-reads
-use Rattle.rearrange.proofs.operation.push_multiple.Reads as push-multiple-reads
+use Rattle.rearrange.specs.Operation.{isBlock}
+use borrow.Author.Needs.{needs}
+use mathlib.Core.Bool.{false≢true}
+use mathlib.Core.List.{[], _∷_}
+use mathlib.Core.Path.{sym, _∙_}
+use native.Mathlib.Omega.{arith}
 
 load-multiple-requires : tie.Need-load-multiple-requires
 unfolding fieldA
@@ -29,18 +22,6 @@ load-multiple-requires c κs = omega (arith, c .before .before .before .before .
 pop-multiple-requires : tie.Need-pop-multiple-requires
 unfolding registersFrom
 pop-multiple-requires c κs = omega (arith, c .before .before .before .before .pre .1)
-
-move-word-requires : tie.Need-move-word-requires
-move-word-requires c κs = search needs
-
-proceed-requires : tie.Need-proceed-requires
-proceed-requires c κs = search needs
-
-push-multiple-requires : tie.Need-push-multiple-requires
-push-multiple-requires c κs = search needs
-
-exchange-words-requires : tie.Need-exchange-words-requires
-exchange-words-requires c κs = search needs
 
 returns : tie.Need-returns
 unfolding executed
@@ -73,17 +54,5 @@ returns-7 c = absurd (false≢true (sym (otherwise (c .before .before .args .n .
 pub rearrange-spec : {M : Type 1} → statement M
 rearrange-spec =
     tie.close
-    (tie.spec
-    load-multiple-requires
-    pop-multiple-requires
-    move-word-requires
-    proceed-requires
-    push-multiple-requires
-    exchange-words-requires
-    returns
-    returns-2
-    returns-3
-    returns-4
-    returns-5
-    returns-6
-    returns-7)
+    (tie.spec load-multiple-requires pop-multiple-requires (λ c κs. search needs) (λ c κs. search needs) (λ c κs. search needs) (λ c κs. search needs)
+    returns returns-2 returns-3 returns-4 returns-5 returns-6 returns-7)

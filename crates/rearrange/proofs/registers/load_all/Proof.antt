@@ -1,18 +1,15 @@
+-- Written by tools/prove.py from answers/rearrange.py: answer ec4973584adb, proof 4d68d9a3ebea.
 -- `rearrange::registers::load_all` meets its contract. Assumes nothing.
-use mathlib.Core.Path.{_≡_, refl, sym, ap, _∙_}
-use native.Mathlib.Omega.{arith}
-use Prim.Native.Nat.{ℕ, _+_, _-_, _%_, _≤_, _<_}
-use lib.ListN.{length, length-set, getD, take, drop}
-use native.Mathlib.Nat.{add-zero}
+use Prim.Native.Nat.{_+_, _≤_}
 use Rattle.isa.specs.Fields.{withRegisters}
 use Rattle.rearrange.proofs.BlockLaws.{loaded-none, loaded-step}
-use borrow.Author.Needs.{needs}
 use Rattle.rearrange.proofs.registers.load_all.Statement.{statement}
 use Rattle.rearrange.proofs.registers.load_all.Tie as tie
-use Rattle.rearrange.proofs.registers.load_all.Reads as reads
-use Rattle.rearrange.proofs.registers.load_all.Lts as lts
-use Rattle.access.proofs.fields.field_a.Reads as field-a-reads
-use Rattle.access.proofs.fields.put.Reads as put-reads
+use borrow.Author.Needs.{needs}
+use lib.ListN.{length, take, drop}
+use mathlib.Core.Path.{_≡_, refl, sym, _∙_}
+use native.Mathlib.Nat.{add-zero}
+use native.Mathlib.Omega.{arith}
 
 abbrev Inv-loop : tie.InvT-loop
 Inv-loop regs₀ words p i₀ left₀ regs i left = (i + left ≤ 16) × (p + i + left ≤ length words) × (withRegisters regs₀ 0 (take left₀ (drop p words)) ≡ withRegisters regs i (take left (drop (p + i) words)))
@@ -62,19 +59,5 @@ returns c = rw (← c .before .before .field-a .ensures .0) (sym (c .before .loo
 pub load-all-spec : {M : Type 1} → statement M
 load-all-spec =
     tie.close
-    (tie.spec
-    Inv-loop
-    μ-loop
-    field-a-requires
-    add-left
-    loop-holds
-    cast-number
-    add-number
-    mul-put
-    shared-slice-read-put
-    put-requires
-    add-i
-    sub-left
-    loop-less
-    loop-again
-    returns)
+    (tie.spec Inv-loop μ-loop field-a-requires add-left loop-holds cast-number add-number mul-put shared-slice-read-put put-requires add-i sub-left
+    loop-less loop-again returns)

@@ -1,18 +1,16 @@
+-- Written by tools/prove.py from answers/rearrange.py: answer 17b8932a46a5, proof 04a7644a073b.
 -- `rearrange::registers::pop_words` meets its contract. Assumes nothing.
-use mathlib.Core.Path.{_≡_, refl, sym, ap, _∙_}
-use native.Mathlib.Omega.{arith}
-use Prim.Native.Nat.{ℕ, _+_, _-_, _%_, _≤_, _<_}
-use borrow.Author.Tests.{eq-eqb, ne-eqb}
-use lib.ListN.{length, length-set, getD, take, drop}
-use lib.Seq.{getD-drop}
+use Prim.Native.Nat.{_+_, _≤_}
 use Rattle.isa.specs.Blocks.{poppedFrom}
 use Rattle.rearrange.proofs.BlockLaws.{popped-none, popped-step}
-use borrow.Author.Needs.{needs}
 use Rattle.rearrange.proofs.registers.pop_words.Statement.{statement}
 use Rattle.rearrange.proofs.registers.pop_words.Tie as tie
-use Rattle.rearrange.proofs.registers.pop_words.Reads as reads
-use Rattle.rearrange.proofs.registers.pop_words.Lts as lts
-use Rattle.access.proofs.fields.put.Reads as put-reads
+use borrow.Author.Needs.{needs}
+use borrow.Author.Tests.{eq-eqb, ne-eqb}
+use lib.ListN.{length, drop}
+use lib.Seq.{getD-drop}
+use mathlib.Core.Path.{_≡_, refl, sym, _∙_}
+use native.Mathlib.Omega.{arith}
 
 abbrev Inv-loop : tie.InvT-loop
 Inv-loop regs₀ a k words p i₀ left₀ regs i left = (i + left ≤ 16) × (p + i + left ≤ length words) × (poppedFrom a (drop p words) k 0 regs₀ ≡ poppedFrom a (drop p words) left i regs)
@@ -65,20 +63,5 @@ returns c = sym (c .before .loop .inv .2 ∙ popped-none _ _ _ _ _ (c .loop-test
 pub pop-words-spec : {M : Type 1} → statement M
 pop-words-spec =
     tie.close
-    (tie.spec
-    Inv-loop
-    μ-loop
-    loop-holds
-    add-at
-    cast-number
-    add-number
-    add-i
-    sub-left
-    mul-put
-    shared-slice-read-put
-    put-requires
-    loop-less
-    loop-again
-    loop-less-2
-    loop-again-2
-    returns)
+    (tie.spec Inv-loop μ-loop loop-holds add-at cast-number add-number add-i sub-left mul-put shared-slice-read-put put-requires loop-less loop-again
+    loop-less-2 loop-again-2 returns)

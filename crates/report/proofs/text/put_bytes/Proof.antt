@@ -1,16 +1,13 @@
+-- Written by tools/prove.py from answers/report.py: answer 18b97f00bd98, proof c2c25a2e41be.
 -- `report::text::put_bytes` meets its contract. Assumes nothing.
-use native.Mathlib.Omega.{arith}
-use Prim.Native.Nat.{_+_, _*_, _-_, _≤_}
-use mathlib.Core.Path.{_≡_, refl, sym, ap, _∙_}
-use lib.ListN.{length, take}
-use Rattle.report.specs.Report.{Wrote}
+use Prim.Native.Nat.{_+_, _-_, _≤_}
 use Rattle.report.proofs.WroteLaws.{wrote-none, wrote-more, wrote-all}
-use borrow.Author.Needs.{needs}
 use Rattle.report.proofs.text.put_bytes.Statement.{statement}
 use Rattle.report.proofs.text.put_bytes.Tie as tie
-use Rattle.report.proofs.text.put_bytes.Reads as reads
-use Rattle.report.proofs.text.put_bytes.Lts as lts
-use Rattle.report.proofs.text.put.Reads as put-reads
+use Rattle.report.specs.Report.{Wrote}
+use lib.ListN.{length, take}
+use mathlib.Core.Path.{_≡_}
+use native.Mathlib.Omega.{arith}
 
 abbrev Inv-loop : tie.InvT-loop
 Inv-loop out₀ at bytes to₀ n₀ out to n = (n ≤ length bytes) × (Wrote out₀ at (take n bytes) out to) × (to ≡ at + n)
@@ -42,13 +39,4 @@ returns c = (wrote-all _ (c .before .loop .n) (omega arith) (c .before .loop .in
 pub put-bytes-spec : {M : Type 1} → statement M
 put-bytes-spec =
     tie.close
-    (tie.spec
-    Inv-loop
-    μ-loop
-    loop-holds
-    shared-slice-read-put
-    put-requires
-    add-n
-    loop-less
-    loop-again
-    returns)
+    (tie.spec Inv-loop μ-loop loop-holds shared-slice-read-put put-requires add-n loop-less loop-again returns)

@@ -1,39 +1,11 @@
+-- Written by tools/prove.py from answers/report.py: answer 1d0735b9ccaf, proof 8f89c15ec035.
 -- `report::text::put_hex` meets its contract. Assumes nothing.
-use native.Mathlib.Omega.{arith}
-use mathlib.Core.Path.{_≡_, refl, sym, ap, _∙_}
 use Rattle.report.proofs.WroteLaws.{then}
-use Rattle.report.specs.Report.{hex}
-use borrow.Author.Needs.{needs}
 use Rattle.report.proofs.text.put_hex.Statement.{statement}
 use Rattle.report.proofs.text.put_hex.Tie as tie
-use Rattle.report.proofs.text.put_hex.Reads as reads
-use Rattle.report.proofs.text.put_hex.Lts as lts
-use Rattle.report.proofs.text.digit.Reads as digit-reads
-use Rattle.report.proofs.text.put.Reads as put-reads
-
-digit-requires : tie.Need-digit-requires
-digit-requires c κs = search needs
-
-put-requires : tie.Need-put-requires
-put-requires c κs = search needs
-
-digit-requires-2 : tie.Need-digit-requires-2
-digit-requires-2 c κs = search needs
-
-put-requires-2 : tie.Need-put-requires-2
-put-requires-2 c κs = search needs
-
-digit-requires-3 : tie.Need-digit-requires-3
-digit-requires-3 c κs = search needs
-
-put-requires-3 : tie.Need-put-requires-3
-put-requires-3 c κs = search needs
-
-digit-requires-4 : tie.Need-digit-requires-4
-digit-requires-4 c κs = search needs
-
-put-requires-4 : tie.Need-put-requires-4
-put-requires-4 c κs = search needs
+use Rattle.report.specs.Report.{hex}
+use borrow.Author.Needs.{needs}
+use native.Mathlib.Omega.{arith}
 
 returns : tie.Need-returns
 unfolding hex
@@ -42,13 +14,5 @@ returns c = rw (← c .before .before .before .before .before .before .before .b
 pub put-hex-spec : {M : Type 1} → statement M
 put-hex-spec =
     tie.close
-    (tie.spec
-    digit-requires
-    put-requires
-    digit-requires-2
-    put-requires-2
-    digit-requires-3
-    put-requires-3
-    digit-requires-4
-    put-requires-4
-    returns)
+    (tie.spec (λ c κs. search needs) (λ c κs. search needs) (λ c κs. search needs) (λ c κs. search needs) (λ c κs. search needs) (λ c κs. search needs)
+    (λ c κs. search needs) (λ c κs. search needs) returns)

@@ -1,13 +1,14 @@
+-- Written by tools/prove.py from answers/storage.py: answer f0b2f52a6c6c, proof 0f396d700b63.
 -- `storage::read::read_span` meets its contract. Assumes nothing.
-use lib.ListN.{length, set}
 use Prim.Native.Nat.{_+_, _≤_}
-use mathlib.Core.Path.{_≡_, refl, sym, ap, _∙_}
-use Rattle.page.specs.Spans.{wordOf, readFrom}
 use Rattle.page.proofs.SpanLaws.{kept, taken, read-none, read-step}
-use native.Mathlib.Omega.{arith}
-use borrow.Author.Needs.{needs}
+use Rattle.page.specs.Spans.{wordOf, readFrom}
 use Rattle.storage.proofs.read.read_span.Statement.{statement}
 use Rattle.storage.proofs.read.read_span.Tie as tie
+use borrow.Author.Needs.{needs}
+use lib.ListN.{length, set}
+use mathlib.Core.Path.{_≡_, refl, sym, ap, _∙_}
+use native.Mathlib.Omega.{arith}
 
 abbrev Inv-loop : tie.InvT-loop
 Inv-loop key group memory pages span buf₀ hole a₀ i₀ left₀ buf a i left = (i + left ≤ 16) × (readFrom key group pages (length memory) span memory (span .count) 0 (span .start) buf₀ ≡ readFrom key group pages (length memory) span memory left i a buf)
@@ -60,20 +61,5 @@ returns c = sym (c .before .loop .inv .1 ∙ read-none _ _ _ _ _ _ _ _ _ _ (c .l
 pub read-span-spec : {M : Type 1} → statement M
 read-span-spec =
     tie.close
-    (tie.spec
-    Inv-loop
-    μ-loop
-    cast-hole
-    loop-holds
-    wrapping-add-u16-requires
-    add-i
-    sub-left
-    read-word-requires
-    word-of-requires
-    mul-buf
-    element-write-buf
-    loop-less
-    loop-again
-    loop-less-2
-    loop-again-2
-    returns)
+    (tie.spec Inv-loop μ-loop cast-hole loop-holds wrapping-add-u16-requires add-i sub-left read-word-requires word-of-requires mul-buf
+    element-write-buf loop-less loop-again loop-less-2 loop-again-2 returns)

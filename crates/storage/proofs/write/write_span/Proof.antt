@@ -1,13 +1,14 @@
+-- Written by tools/prove.py from answers/storage.py: answer 75548c021b68, proof 858be36fa68b.
 -- `storage::write::write_span` meets its contract. Assumes nothing.
-use lib.ListN.{length}
 use Prim.Native.Nat.{_+_, _≤_}
-use mathlib.Core.Path.{_≡_, refl, sym, _∙_}
-use Rattle.page.specs.Spans.{writtenFrom, written}
 use Rattle.page.proofs.SpanLaws.{kept, taken, write-none, write-step}
-use native.Mathlib.Omega.{arith}
-use borrow.Author.Needs.{needs}
+use Rattle.page.specs.Spans.{writtenFrom, written}
 use Rattle.storage.proofs.write.write_span.Statement.{statement}
 use Rattle.storage.proofs.write.write_span.Tie as tie
+use borrow.Author.Needs.{needs}
+use lib.ListN.{length}
+use mathlib.Core.Path.{_≡_, refl, sym, _∙_}
+use native.Mathlib.Omega.{arith}
 
 abbrev Inv-loop : tie.InvT-loop
 Inv-loop key group memory₀ pages buf span hole a₀ i₀ left₀ memory a i left = (i + left ≤ 16) × (length memory ≡ length memory₀) × (written key group pages (length memory₀) span buf memory₀ ≡ writtenFrom key group pages (length memory₀) span buf left i a memory)
@@ -64,20 +65,5 @@ returns c = sym (c .before .loop .inv .2 ∙ write-none _ _ _ _ _ _ _ _ _ _ (c .
 pub write-span-spec : {M : Type 1} → statement M
 write-span-spec =
     tie.close
-    (tie.spec
-    Inv-loop
-    μ-loop
-    cast-hole
-    loop-holds
-    wrapping-add-u16-requires
-    add-i
-    sub-left
-    mul-write-word
-    element-copy-out-write-word
-    write-word-requires
-    loop-less
-    loop-again
-    loop-less-2
-    loop-again-2
-    same-length
-    returns)
+    (tie.spec Inv-loop μ-loop cast-hole loop-holds wrapping-add-u16-requires add-i sub-left mul-write-word element-copy-out-write-word
+    write-word-requires loop-less loop-again loop-less-2 loop-again-2 same-length returns)

@@ -1,29 +1,18 @@
+-- Written by tools/prove.py from answers/storage.py: answer 02dd3679bebe, proof 5d60420e6314.
 -- `storage::write::write_word` meets its contract. Assumes nothing.
-use native.Mathlib.Omega.{arith}
-use Rattle.page.specs.Spans.{putAt}
-use Rattle.page.proofs.SpanLaws.{put-as}
 use Rattle.page.proofs.ReachLaws.{located-inside}
-use borrow.Author.Needs.{needs}
+use Rattle.page.proofs.SpanLaws.{put-as}
+use Rattle.page.specs.Spans.{putAt}
 use Rattle.storage.proofs.write.write_word.Statement.{statement}
 use Rattle.storage.proofs.write.write_word.Tie as tie
-
-look-up-requires : tie.Need-look-up-requires
-look-up-requires c κs = search needs
-
-enum-known-place : tie.Need-enum-known-place
-enum-known-place c = search needs
+use borrow.Author.Needs.{needs}
+use native.Mathlib.Omega.{arith}
 
 mul-memory : tie.Need-mul-memory
 mul-memory c = omega (arith, located-inside _ _ _ _ _ _ _ _ (c .before .before .before .look-up .ensures) (c .before .place .given .1))
 
 slice-write-memory : tie.Need-slice-write-memory
 slice-write-memory c = located-inside _ _ _ _ _ _ _ _ (c .before .before .before .look-up .ensures) (c .before .place .given .1)
-
-enum-told : tie.Need-enum-told
-enum-told c = search needs
-
-same-length : tie.Need-same-length
-same-length c = search needs
 
 returns : tie.Need-returns
 unfolding putAt
@@ -36,12 +25,4 @@ returns-2 c = put-as _ _ _ (c .before .before .look-up .ensures) (c .enum-told .
 pub write-word-spec : {M : Type 1} → statement M
 write-word-spec =
     tie.close
-    (tie.spec
-    look-up-requires
-    enum-known-place
-    mul-memory
-    slice-write-memory
-    enum-told
-    same-length
-    returns
-    returns-2)
+    (tie.spec (λ c κs. search needs) (λ c. search needs) mul-memory slice-write-memory (λ c. search needs) (λ c. search needs) returns returns-2)

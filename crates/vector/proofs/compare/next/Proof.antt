@@ -1,15 +1,13 @@
+-- Written by tools/prove.py from answers/vector.py: answer 4235b0a9d588, proof fa9a57157fb5.
 -- `vector::compare::next` meets its contract. Assumes nothing.
-use mathlib.Core.Path.{_≡_, refl, sym, ap, _∙_}
-use Prim.Native.Nat.{ℕ, _+_, _*_, _-_, _≤_, _<_}
-use native.Mathlib.Omega.{arith}
-use lib.ListN.{length}
-use Rattle.vector.specs.Changes.{nextChanged}
+use Prim.Native.Nat.{_-_, _≤_}
 use Rattle.vector.proofs.ChangeLaws.{past, same, changed}
-use borrow.Author.Needs.{needs}
 use Rattle.vector.proofs.compare.next.Statement.{statement}
 use Rattle.vector.proofs.compare.next.Tie as tie
-use Rattle.vector.proofs.compare.next.Reads as reads
-use Rattle.vector.proofs.compare.next.Lts as lts
+use Rattle.vector.specs.Changes.{nextChanged}
+use lib.ListN.{length}
+use mathlib.Core.Path.{_≡_, refl, sym, _∙_}
+use native.Mathlib.Omega.{arith}
 
 abbrev Inv-loop : tie.InvT-loop
 Inv-loop before after from i₀ i = (from ≤ i) × (nextChanged before after i ≡ nextChanged before after from)
@@ -50,16 +48,4 @@ returns-2 c = (sym (past _ _ _ (c .loop-test .left)) ∙ c .before .loop .inv .1
 pub next-spec : {M : Type 1} → statement M
 next-spec =
     tie.close
-    (tie.spec
-    Inv-loop
-    μ-loop
-    loop-holds
-    mul-if1
-    shared-slice-read-if1
-    mul-if1-2
-    shared-slice-read-if1-2
-    returns
-    add-i
-    loop-less
-    loop-again
-    returns-2)
+    (tie.spec Inv-loop μ-loop loop-holds mul-if1 shared-slice-read-if1 mul-if1-2 shared-slice-read-if1-2 returns add-i loop-less loop-again returns-2)

@@ -1,20 +1,16 @@
+-- Written by tools/prove.py from answers/vector.py: answer cf66dffa633e, proof 3e4850b037f2.
 -- `vector::lines::digit` meets its contract. Assumes nothing.
-use mathlib.Core.Path.{_≡_, refl, sym, ap, _∙_}
-use native.Mathlib.Omega.{arith}
-use borrow.Author.Tests.{eq-eqb, ne-eqb, lt-ltb, le-ltb, le-leb, lt-leb}
-use Rattle.vector.specs.Lines.{digitOf}
-use borrow.Author.Needs.{needs}
 use Rattle.vector.proofs.lines.digit.Statement.{statement}
 use Rattle.vector.proofs.lines.digit.Tie as tie
-use Rattle.vector.proofs.lines.digit.Reads as reads
-use Rattle.vector.proofs.lines.digit.Lts as lts
+use Rattle.vector.specs.Lines.{digitOf}
+use borrow.Author.Needs.{needs}
+use borrow.Author.Tests.{lt-ltb, le-ltb}
+use mathlib.Core.Path.{refl}
+use native.Mathlib.Omega.{arith}
 
 returns : tie.Need-returns
 unfolding digitOf
 returns c = (rw (lt-ltb _ _ (c .if1 .taken)) refl, omega arith)
-
-sub-result : tie.Need-sub-result
-sub-result c = search needs
 
 returns-2 : tie.Need-returns-2
 unfolding digitOf
@@ -23,9 +19,6 @@ returns-2 c = (rw (le-ltb _ _ (c .before .if1 .left), lt-ltb _ _ (c .if2 .taken)
 returns-3 : tie.Need-returns-3
 unfolding digitOf
 returns-3 c = (rw (le-ltb _ _ (c .before .before .if1 .left), le-ltb _ _ (c .before .if2 .left), lt-ltb _ _ (c .if3 .taken)) refl, omega arith)
-
-sub-result-2 : tie.Need-sub-result-2
-sub-result-2 c = search needs
 
 returns-4 : tie.Need-returns-4
 unfolding digitOf
@@ -37,4 +30,5 @@ returns-5 c = (rw (le-ltb _ _ (c .before .before .before .if1 .left), le-ltb _ _
 
 pub digit-spec : {M : Type 1} → statement M
 digit-spec =
-    tie.close (tie.spec returns sub-result returns-2 returns-3 sub-result-2 returns-4 returns-5)
+    tie.close
+    (tie.spec returns (λ c. search needs) returns-2 returns-3 (λ c. search needs) returns-4 returns-5)

@@ -1,13 +1,11 @@
+-- Written by tools/prove.py from answers/vector.py: answer f88719fcb8ea, proof b6e5b9ab84fd.
 -- `vector::lines::limit` meets its contract. Assumes nothing.
-use mathlib.Core.Path.{_≡_, refl, sym, ap, _∙_}
-use native.Mathlib.Omega.{arith}
-use borrow.Author.Tests.{eq-eqb, ne-eqb, lt-ltb, le-ltb, le-leb, lt-leb}
-use Rattle.vector.specs.Lines.{limitOf}
-use borrow.Author.Needs.{needs}
 use Rattle.vector.proofs.lines.limit.Statement.{statement}
 use Rattle.vector.proofs.lines.limit.Tie as tie
-use Rattle.vector.proofs.lines.limit.Reads as reads
-use Rattle.vector.proofs.lines.limit.Lts as lts
+use Rattle.vector.specs.Lines.{limitOf}
+use borrow.Author.Tests.{eq-eqb, ne-eqb}
+use mathlib.Core.Path.{refl}
+use native.Mathlib.Omega.{arith}
 
 returns : tie.Need-returns
 unfolding limitOf

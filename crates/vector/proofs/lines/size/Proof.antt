@@ -1,14 +1,12 @@
+-- Written by tools/prove.py from answers/vector.py: answer 18e119626b4a, proof 4eb51d780bf8.
 -- `vector::lines::size` meets its contract. Assumes nothing.
-use mathlib.Core.Path.{_≡_, refl, sym, ap, _∙_}
-use native.Mathlib.Omega.{arith}
-use mathlib.Core.List.{[], _∷_}
 use Rattle.choice.proofs.SelectLaws.{otherwise}
-use Rattle.vector.specs.Lines.{sizeOf}
-use borrow.Author.Needs.{needs}
 use Rattle.vector.proofs.lines.size.Statement.{statement}
 use Rattle.vector.proofs.lines.size.Tie as tie
-use Rattle.vector.proofs.lines.size.Reads as reads
-use Rattle.vector.proofs.lines.size.Lts as lts
+use Rattle.vector.specs.Lines.{sizeOf}
+use mathlib.Core.List.{[], _∷_}
+use mathlib.Core.Path.{sym}
+use native.Mathlib.Omega.{arith}
 
 returns : tie.Need-returns
 unfolding sizeOf
@@ -39,5 +37,4 @@ unfolding sizeOf
 returns-7 c = (sym (otherwise (c .before .args .kind) ((83, _) ∷ (77, _) ∷ (80, _) ∷ (79, _) ∷ (76, _) ∷ (71, _) ∷ []) _ (c .match .rest)), omega arith)
 
 pub size-spec : {M : Type 1} → statement M
-size-spec =
-    tie.close (tie.spec returns returns-2 returns-3 returns-4 returns-5 returns-6 returns-7)
+size-spec = tie.close (tie.spec returns returns-2 returns-3 returns-4 returns-5 returns-6 returns-7)

@@ -1,20 +1,10 @@
+-- Written by tools/prove.py from answers/vector.py: answer 08cb00b568bb, proof 4b313b3efc2f.
 -- `vector::set::put` meets its contract. Assumes nothing.
-use mathlib.Core.Path.{_≡_, refl, sym, ap, _∙_}
-use lib.Seq.{set-out}
-use borrow.Author.Needs.{needs}
 use Rattle.vector.proofs.set.put.Statement.{statement}
 use Rattle.vector.proofs.set.put.Tie as tie
-use Rattle.vector.proofs.set.put.Reads as reads
-use Rattle.vector.proofs.set.put.Lts as lts
-
-mul-words : tie.Need-mul-words
-mul-words c = search needs
-
-slice-write-words : tie.Need-slice-write-words
-slice-write-words c = search needs
-
-same-length : tie.Need-same-length
-same-length c = search needs
+use borrow.Author.Needs.{needs}
+use lib.Seq.{set-out}
+use mathlib.Core.Path.{refl, sym}
 
 returns : tie.Need-returns
 returns c = refl
@@ -23,4 +13,4 @@ returns-2 : tie.Need-returns-2
 returns-2 c = sym (set-out _ _ _ (c .if1 .left))
 
 pub put-spec : {M : Type 1} → statement M
-put-spec = tie.close (tie.spec mul-words slice-write-words same-length returns returns-2)
+put-spec = tie.close (tie.spec (λ c. search needs) (λ c. search needs) (λ c. search needs) returns returns-2)
