@@ -1,8 +1,5 @@
 # The answers from which the proofs of the crate `vector` are written.
-NAT = 'Prim.Native.Nat.{ℕ, _+_, _*_, _-_, _≤_, _<_}'
 LINES = 'Rattle.vector.specs.Lines.'
-CHANGES = 'Rattle.vector.specs.Changes.'
-CHANGE_LAWS = 'Rattle.vector.proofs.ChangeLaws.'
 TEXTS = 'Rattle.vector.specs.Texts.'
 LAWS = 'Rattle.report.proofs.WroteLaws.'
 
@@ -71,10 +68,4 @@ A = {
     'text/time_line': line('timeLine', 'put-bytes', 'put-hex', 'put-bytes2', 'put-hex2', 'put-bytes3', 'put-hex3', 'put-bytes4', 'put-decimal', 'put', back='rw (← @marks .ensures) '),
     'text/entry_line': line('entryLine', 'put', 'put2', 'put-hex', 'put3', 'put-hex2', 'put4'),
     'text/numbered_line': line('numberedLine', 'put-bytes', 'put-decimal', 'put'),
-    'compare/next': {'use': [EQUATIONS, NAT, OMEGA, LENGTH, CHANGES + '{nextChanged}', CHANGE_LAWS + '{past, same, changed}'], 'default': 'omega arith',
-        'Inv-loop': '(from ≤ i) × (nextChanged before after i ≡ nextChanged before after from)', 'μ-loop': 'length after - i',
-        'loop-holds': '(omega arith, refl)',
-        'loop-again': '(omega arith, sym (same _ _ _ (@loop-test .taken) (@if1 .left)) ∙ @loop .inv .1)',
-        'returns': '(sym (changed _ _ _ (@loop-test .taken) (@if1 .taken)) ∙ @loop .inv .1, @loop .inv .0)',
-        'returns-2': '(sym (past _ _ _ (@loop-test .left)) ∙ @loop .inv .1, @loop .inv .0)'},
 }

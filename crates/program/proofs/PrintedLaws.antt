@@ -60,12 +60,12 @@ module _ (b : List ℕ) (x : Machine) (memory : length (x .memory) ≡ memorySiz
 
   -- and an accepted one leaves the machine that the run starts from
   pub machine-is : (a : Loading) (n : ℕ) (s : State) (m g o : List ℕ) → n ≡ image.numberOf a → n ≡ 0 → image.Outcome b x a s m g o → machine s m g o ≡ started b
-  unfolding started image.left image.loaded
+  unfolding started image.afterLoading image.loaded
   machine-is a n s m g o e z h =
       became-machine (h .became) ∙ rw (eq-eqb (image.numberOf (image.answerOf b x)) 0 (ap image.numberOf (sym (h .answer-is)) ∙ sym e ∙ z), memory, pages, ports) refl
 
   -- a refused one leaves x
   pub kept : (a : Loading) (n : ℕ) (s : State) (m g o : List ℕ) → n ≡ image.numberOf a → (n ≡ 0 → ⊥) → image.Outcome b x a s m g o → machine s m g o ≡ x
-  unfolding image.left
+  unfolding image.afterLoading
   kept a n s m g o e z h =
       became-machine (h .became) ∙ rw (ne-eqb (image.numberOf (image.answerOf b x)) 0 (λ k. z (e ∙ ap image.numberOf (h .answer-is) ∙ k))) refl

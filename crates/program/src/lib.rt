@@ -15,7 +15,7 @@ fn run_and_report(
     ports: &mut [u16],
     out: &mut [u8; 256],
 ) -> usize
-    ensures { λ r. ⌜ Text (ranText (machine s (now (memory .entry)) (now (pages .entry)) (now (ports .entry)))) (now (out .exit)) r
+    ensures { λ r. ⌜ Text (now (out .entry)) (ranText (machine s (now (memory .entry)) (now (pages .entry)) (now (ports .entry)))) (now (out .exit)) r
         × Holds (left mil1750 (machine s (now (memory .entry)) (now (pages .entry)) (now (ports .entry))) 1000) (now (memory .exit)) (now (pages .exit)) (now (ports .exit)) ⌝ }
 {
     let ran = cpu::run::run(s, memory, pages, ports, 1000);
@@ -36,7 +36,7 @@ pub fn text_for(
     ports: &mut [u16; 1024],
     out: &mut [u8; 256],
 ) -> usize
-    ensures { λ r. ⌜ Text (printed (now (input .entry))) (now (out .exit)) r
+    ensures { λ r. ⌜ Text (now (out .entry)) (printed (now (input .entry))) (now (out .exit)) r
         × ((s : State) → Holds (afterwards (now (input .entry)) (machine s (now (memory .entry)) (now (pages .entry)) (now (ports .entry))))
         (now (memory .exit)) (now (pages .exit)) (now (ports .exit))) ⌝ }
 {

@@ -1,23 +1,24 @@
 -- Two wrong answers of each contract that other crates call, beside the right one, which the checker computes. Assumes nothing.
-use Prim.Native.Nat.{ℕ}
+use Prim.Native.Nat.{ℕ, _+_}
 use mathlib.Core.List.{List, [], _∷_, _++_}
 use lib.Dec.{T}
-use lib.ListN.{take}
+use lib.ListN.{length, take, drop}
 use Rattle.choice.proofs.Rows.{Row, some, hold}
 use Rattle.report.specs.Report.{digit, hex, leading, decimal}
 
--- a buffer's first bytes
-abbrev before : List ℕ
-before = 1 ∷ 2 ∷ 3 ∷ 4 ∷ []
+-- a buffer of four bytes after a text from byte `at` on, as `Wrote` has it
+abbrev over : ℕ → List ℕ → List ℕ
+over at text = let before : List ℕ = 1 ∷ 2 ∷ 3 ∷ 4 ∷ [] in take at before ++ (text ++ drop (at + length text) before)
 
--- of the first two functions the bytes up to the place returned are shown, as `Wrote` has them
 pub rows : List Row
 unfolding digit hex leading decimal
 rows =
-    -- text::put: one place before; one place after
-    some (take 2 before ++ (65 ∷ [])) (1 ∷ 2 ∷ 65 ∷ []) (1 ∷ 65 ∷ []) (1 ∷ 2 ∷ 3 ∷ 65 ∷ [])
-    -- text::put_bytes: the bytes in the other order; the last byte left out
-    ∷ some (take 1 before ++ (65 ∷ 66 ∷ [])) (1 ∷ 65 ∷ 66 ∷ []) (1 ∷ 66 ∷ 65 ∷ []) (1 ∷ 65 ∷ [])
+    -- text::put: one place before; a byte behind it written too
+    some (over 2 (65 ∷ [])) (1 ∷ 2 ∷ 65 ∷ 4 ∷ []) (1 ∷ 65 ∷ 3 ∷ 4 ∷ []) (1 ∷ 2 ∷ 65 ∷ 33 ∷ [])
+    -- text::copy: the last byte left out; the bytes behind the text moved on
+    ∷ some (over 0 (65 ∷ 66 ∷ [])) (65 ∷ 66 ∷ 3 ∷ 4 ∷ []) (65 ∷ 2 ∷ 3 ∷ 4 ∷ []) (65 ∷ 66 ∷ 1 ∷ 2 ∷ [])
+    -- text::put_bytes: the bytes in the other order; a byte behind them written too
+    ∷ some (over 1 (65 ∷ 66 ∷ [])) (1 ∷ 65 ∷ 66 ∷ 4 ∷ []) (1 ∷ 66 ∷ 65 ∷ 4 ∷ []) (1 ∷ 65 ∷ 66 ∷ 33 ∷ [])
     -- text::put_hex: small letters; the last digit first
     ∷ some (hex 0x0A3F) (48 ∷ 65 ∷ 51 ∷ 70 ∷ []) (48 ∷ 97 ∷ 51 ∷ 102 ∷ []) (70 ∷ 51 ∷ 65 ∷ 48 ∷ [])
     -- text::put_decimal: zeros inside the number left out; a leading zero

@@ -4,7 +4,7 @@ use mathlib.Core.Bool.{cond}
 use mathlib.Core.List.{List, [], _∷_, _++_}
 use mathlib.Core.Path.{_≡_}
 use lib.Dec.{ltb}
-use lib.ListN.{length, take, getD}
+use lib.ListN.{length, take, drop, getD}
 use Rattle.machine.specs.declared.State.{State}
 
 -- ---- characters: their numbers in ASCII
@@ -81,13 +81,15 @@ refusalOf n = (114 ∷ 101 ∷ 102 ∷ 117 ∷ 115 ∷ 101 ∷ 100 ∷ 32 ∷ []
 
 -- ---- what the code ensures
 
--- a text stands in a buffer from byte `at` on and ends before byte r; the bytes before it are as they were
+-- a text stands in a buffer from byte `at` on and ends before byte r; the bytes before it and behind it are as they were
 pub record Wrote (before : List ℕ) (at : ℕ) (text after : List ℕ) (r : ℕ) : Type 0 where
   pub end : r ≡ at + length text
-  pub is : take r after ≡ take at before ++ text
+  pub is : after ≡ take at before ++ (text ++ drop r before)
 
--- the first r bytes of a buffer, and r is their number, are a text
-pub record Text (text after : List ℕ) (r : ℕ) : Type 0 where
-  pub is : take r after ≡ text
+-- a text stands at the start of a buffer and ends before byte r; the bytes behind it are as they were.
+-- So its r bytes lie in the buffer, which one who shows them asks: the last two fields follow from the first two
+pub record Text (before text after : List ℕ) (r : ℕ) : Type 0 where
+  pub end : r ≡ length text
+  pub is : after ≡ text ++ drop r before
   pub count : r ≡ length (take r after)
   pub within : r ≤ length after

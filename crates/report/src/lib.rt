@@ -81,7 +81,7 @@ fn put_line(out: &mut [u8; 256], at: usize, regs: &[u16; 16], first: usize) -> u
 
 // The report of a run: its steps, and the state after it.
 pub fn report(steps: u32, s: State, out: &mut [u8; 256]) -> usize
-    ensures { λ r. ⌜ Text (reportOf steps s) (now (out .exit)) r ⌝ }
+    ensures { λ r. ⌜ Text (now (out .entry)) (reportOf steps s) (now (out .exit)) r ⌝ }
 {
     let regs = s.regs;
     let at = put_steps(out, 0, steps);
@@ -92,7 +92,7 @@ pub fn report(steps: u32, s: State, out: &mut [u8; 256]) -> usize
 
 // A refusal by its number.
 pub fn refusal(number: u32, out: &mut [u8; 256]) -> usize
-    ensures { λ r. ⌜ Text (refusalOf number) (now (out .exit)) r ⌝ }
+    ensures { λ r. ⌜ Text (now (out .entry)) (refusalOf number) (now (out .exit)) r ⌝ }
 {
     let at = put_bytes(out, 0, b"refused ");
     let at = put_decimal(out, at, number);

@@ -20,17 +20,26 @@ pub fn put(out: &mut [u8; 256], at: usize, byte: u8) -> usize
     at + 1
 }
 
-pub fn put_bytes(out: &mut [u8; 256], at: usize, bytes: &[u8]) -> usize
-    requires { ⌜ at + length (now bytes) ≤ 256 ⌝ }
+// Bytes put into a buffer of any length.
+pub fn copy(out: &mut [u8], at: usize, bytes: &[u8]) -> usize
+    requires { ⌜ at + length (now bytes) ≤ length (now out) ⌝ }
     ensures { λ r. ⌜ (Wrote (now (out .entry)) at (now (bytes .entry)) (now (out .exit)) r) × (r ≡ at + length (now (bytes .entry))) ⌝ }
 {
     let mut to = at;
     let mut n: usize = 0;
     while n < bytes.len() {
-        to = put(out, to, bytes[n]);
+        out[to] = bytes[n];
+        to += 1;
         n += 1;
     }
     to
+}
+
+pub fn put_bytes(out: &mut [u8; 256], at: usize, bytes: &[u8]) -> usize
+    requires { ⌜ at + length (now bytes) ≤ 256 ⌝ }
+    ensures { λ r. ⌜ (Wrote (now (out .entry)) at (now (bytes .entry)) (now (out .exit)) r) × (r ≡ at + length (now (bytes .entry))) ⌝ }
+{
+    copy(out, at, bytes)
 }
 
 // A digit to the base sixteen.

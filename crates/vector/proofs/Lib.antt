@@ -1,4 +1,3 @@
--- The laws of changed words; known lines and changes, computed.
-pub mod ChangeLaws
+-- Known lines, computed; wrong answers.
 pub mod Rows
 pub mod Wrong

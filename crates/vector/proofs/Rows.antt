@@ -1,10 +1,8 @@
--- Known lines and changes, computed (docs/VECTORS.md). Assumes nothing.
-use Prim.Native.Nat.{ℕ}
-use mathlib.Core.List.{List, [], _∷_}
+-- Known lines, computed (docs/VECTORS.md). Assumes nothing.
+use mathlib.Core.List.{[], _∷_}
 use mathlib.Core.Path.{_≡_, refl}
 use Rattle.vector.specs.declared.Line.{Line}
 use Rattle.vector.specs.Lines.{digitOf, given, wordOf, sizeOf, limitOf, entryOf, lineOf}
-use Rattle.vector.specs.Changes.{firstChanged, nextChanged}
 
 -- "M 0100 82FA"
 memory-line : lineOf (77 ∷ 32 ∷ 48 ∷ 49 ∷ 48 ∷ 48 ∷ 32 ∷ 56 ∷ 50 ∷ 70 ∷ 65 ∷ 0 ∷ []) 11 ≡ Line.Entry 77 256 33530
@@ -30,22 +28,3 @@ too-many = refl
 remark : lineOf (35 ∷ 32 ∷ 97 ∷ 32 ∷ 114 ∷ 101 ∷ 109 ∷ 97 ∷ 114 ∷ 107 ∷ 0 ∷ 0 ∷ []) 10 ≡ Line.Remark
 unfolding lineOf
 remark = refl
-
--- the second of three words has changed; from the third on none has, and from word 7 on there is none
-abbrev old : List ℕ
-old = 1 ∷ 2 ∷ 3 ∷ []
-
-abbrev new : List ℕ
-new = 1 ∷ 9 ∷ 3 ∷ []
-
-next-1 : nextChanged old new 0 ≡ 1
-unfolding nextChanged firstChanged
-next-1 = refl
-
-next-3 : nextChanged old new 2 ≡ 3
-unfolding nextChanged firstChanged
-next-3 = refl
-
-next-7 : nextChanged old new 7 ≡ 7
-unfolding nextChanged firstChanged
-next-7 = refl

@@ -1,10 +1,10 @@
 -- Two wrong answers of each contract that other crates call, beside the right one, which the checker computes. Assumes nothing.
-use Prim.Native.Nat.{ℕ, min}
+use Prim.Native.Nat.{ℕ}
 use mathlib.Core.Bool.{true, false}
 use mathlib.Core.List.{List, [], _∷_}
 use lib.Dec.{T}
 use lib.ListN.{set, replicate}
-use Rattle.choice.proofs.Rows.{Row, one, some, hold}
+use Rattle.choice.proofs.Rows.{Row, some, hold}
 use Rattle.machine.specs.declared.State.{State}
 use Rattle.machine.proofs.Opened.{machinery}
 use Rattle.machine.proofs.Samples.{stateAt}
@@ -13,7 +13,6 @@ use Rattle.report.specs.Report.{digit, hex, leading, decimal}
 use Rattle.packed.specs.Packed.{marked, markAt, marksOf, unpacked, others, packed}
 use Rattle.vector.specs.declared.Line.{Line}
 use Rattle.vector.specs.declared.Line.the-variants.{Remark, Entry, Malformed}
-use Rattle.vector.specs.Changes.{firstChanged, nextChanged}
 use Rattle.vector.specs.Lines.{digitOf, given, wordOf, sizeOf, limitOf, entryOf, lineOf}
 use Rattle.vector.specs.Fields.{withWord}
 use Rattle.vector.specs.Texts.{caseLine, timeLine, entryLine, numberedLine}
@@ -21,9 +20,9 @@ use Rattle.vector.specs.Texts.{caseLine, timeLine, entryLine, numberedLi
 abbrev s : State
 s = withCount (withTbOn (withTb (withTa (withEnabled (withFt (withPi (withMk (stateAt (replicate 16 0) 1 2) 3) 4) 5) true) 10) 20) false) 12
 
--- opens the definitions of changes and lines at once, and those of the state and of texts
+-- opens the definitions of lines at once, and those of the state and of texts
 unfoldable lines : Unit {0}
-unfolding firstChanged nextChanged digitOf given wordOf sizeOf limitOf entryOf lineOf
+unfolding digitOf given wordOf sizeOf limitOf entryOf lineOf
 lines = tt
 
 unfoldable texts : Unit {0}
@@ -39,12 +38,8 @@ parts Malformed = 2 ∷ []
 pub rows : List Row
 unfolding machinery lines texts
 rows =
-    -- compare::next: searched from the first word on; the changed word passed over
-    one (nextChanged (1 ∷ 2 ∷ 3 ∷ 4 ∷ []) (1 ∷ 9 ∷ 3 ∷ 9 ∷ []) 2) 3 1 4
-    -- compare::least: the larger; one less
-    ∷ one (min 9 5) 5 9 4
     -- lines::read: number and word exchanged; the letters A to F as 11 to 16
-    ∷ some (parts (lineOf (77 ∷ 32 ∷ 48 ∷ 48 ∷ 49 ∷ 50 ∷ 32 ∷ 48 ∷ 48 ∷ 65 ∷ 66 ∷ 10 ∷ []) 11))
+    some (parts (lineOf (77 ∷ 32 ∷ 48 ∷ 48 ∷ 49 ∷ 50 ∷ 32 ∷ 48 ∷ 48 ∷ 65 ∷ 66 ∷ 10 ∷ []) 11))
     (77 ∷ 0x0012 ∷ 0x00AB ∷ []) (77 ∷ 0x00AB ∷ 0x0012 ∷ []) (77 ∷ 0x0012 ∷ 0x00BC ∷ [])
     -- set::put: the word before; the word after
     ∷ some (set (5 ∷ 6 ∷ 7 ∷ []) 1 9) (5 ∷ 9 ∷ 7 ∷ []) (9 ∷ 6 ∷ 7 ∷ []) (5 ∷ 6 ∷ 9 ∷ [])

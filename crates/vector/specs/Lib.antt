@@ -2,4 +2,3 @@
 pub mod Lines
 pub mod Fields
 pub mod Texts
-pub mod Changes

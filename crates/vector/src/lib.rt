@@ -1,5 +1,4 @@
-// The parts of the program `vectors` (docs/VECTORS.md): an input line, the state that lines set, and the text of a case.
-pub mod compare;
+// The lines of the program `vectors` (docs/VECTORS.md): an input line, the words that it sets, and the lines of a case's text.
 pub mod lines;
 pub mod set;
 pub mod text;

@@ -12,7 +12,7 @@ use report::text::put_hex;
 
 // A case's number and the number of the run's answer.
 pub fn case_line(number: u32, answer: u32, out: &mut [u8; 256]) -> usize
-    ensures { λ r. ⌜ Text (caseLine number answer) (now (out .exit)) r ⌝ }
+    ensures { λ r. ⌜ Text (now (out .entry)) (caseLine number answer) (now (out .exit)) r ⌝ }
 {
     let at = put_bytes(out, 0, b"case ");
     let at = put_decimal(out, at, number);
@@ -23,7 +23,7 @@ pub fn case_line(number: u32, answer: u32, out: &mut [u8; 256]) -> usize
 
 // Timers, marks and counter.
 pub fn time_line(s: State, out: &mut [u8; 256]) -> usize
-    ensures { λ r. ⌜ Text (timeLine s) (now (out .exit)) r ⌝ }
+    ensures { λ r. ⌜ Text (now (out .entry)) (timeLine s) (now (out .exit)) r ⌝ }
 {
     let at = put_bytes(out, 0, b"ta ");
     let at = put_hex(out, at, s.ta);
@@ -38,7 +38,7 @@ pub fn time_line(s: State, out: &mut [u8; 256]) -> usize
 
 // An entry: its kind letter, its number and its word.
 pub fn entry_line(kind: u8, number: u16, word: u16, out: &mut [u8; 256]) -> usize
-    ensures { λ r. ⌜ Text (entryLine kind number word) (now (out .exit)) r ⌝ }
+    ensures { λ r. ⌜ Text (now (out .entry)) (entryLine kind number word) (now (out .exit)) r ⌝ }
 {
     let at = put(out, 0, kind);
     let at = put(out, at, b' ');
@@ -51,7 +51,7 @@ pub fn entry_line(kind: u8, number: u16, word: u16, out: &mut [u8; 256]) -> usiz
 // A message of at most 200 bytes and a number.
 pub fn numbered_line(message: &[u8], number: u32, out: &mut [u8; 256]) -> usize
     requires { ⌜ length (now message) ≤ 200 ⌝ }
-    ensures { λ r. ⌜ Text (numberedLine (now (message .entry)) number) (now (out .exit)) r ⌝ }
+    ensures { λ r. ⌜ Text (now (out .entry)) (numberedLine (now (message .entry)) number) (now (out .exit)) r ⌝ }
 {
     let at = put_bytes(out, 0, message);
     let at = put_decimal(out, at, number);

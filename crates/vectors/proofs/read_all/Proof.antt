@@ -1,14 +1,14 @@
--- Written by tools/prove.py from answers/vectors.py: answer 9d75f0657ec6, proof 21b46b3374ec.
+-- Written by tools/prove.py from answers/vectors.py: answer f0c88448ac30, proof 442421d7819e.
 -- `vectors::read_all` meets its contract. Assumes nothing.
 use Rattle.vectors.proofs.read_all.Statement.{statement}
 use Rattle.vectors.proofs.read_all.Tie as tie
 use borrow.Author.Needs.{needs}
 
 abbrev Inv-loop : tie.InvT-loop
-Inv-loop line₀ memory₀ pages₀ ports₀ t₀ left₀ line memory pages ports t left = Unit {0}
+Inv-loop memory₀ pages₀ ports₀ out₀ t₀ left₀ memory pages ports out t left = Unit {0}
 
 abbrev μ-loop : tie.MeasureT-loop
-μ-loop line₀ memory₀ pages₀ ports₀ t₀ left₀ line memory pages ports t left = left
+μ-loop memory₀ pages₀ ports₀ out₀ t₀ left₀ memory pages ports out t left = left
 
 loop-holds : tie.Need-loop-holds Inv-loop μ-loop
 loop-holds c = search needs

@@ -1,4 +1,4 @@
--- Written by tools/prove.py from answers/vectors.py: answer 117cd9b80932, proof 4f62ef5a6b52.
+-- Written by tools/prove.py from answers/vectors.py: answer 22b1ec4eeb68, proof 3136c7412eac.
 -- `vectors::take_all` meets its contract. Assumes nothing.
 use Prim.Native.Nat.{_-_}
 use Rattle.vectors.proofs.take_all.Statement.{statement}
@@ -7,10 +7,10 @@ use borrow.Author.Needs.{needs}
 use lib.ListN.{length}
 
 abbrev Inv-loop : tie.InvT-loop
-Inv-loop bytes line₀ memory₀ pages₀ ports₀ t₀ i₀ line memory pages ports t i = Unit {0}
+Inv-loop bytes memory₀ pages₀ ports₀ out₀ t₀ i₀ memory pages ports out t i = Unit {0}
 
 abbrev μ-loop : tie.MeasureT-loop
-μ-loop bytes line₀ memory₀ pages₀ ports₀ t₀ i₀ line memory pages ports t i = length bytes - i
+μ-loop bytes memory₀ pages₀ ports₀ out₀ t₀ i₀ memory pages ports out t i = length bytes - i
 
 loop-holds : tie.Need-loop-holds Inv-loop μ-loop
 loop-holds c = search needs
@@ -20,6 +20,9 @@ shared-slice-read-take c = search needs
 
 take-requires : tie.Need-take-requires Inv-loop μ-loop
 take-requires c κs = search needs
+
+write-requires : tie.Need-write-requires Inv-loop μ-loop
+write-requires c κs = search needs
 
 add-i : tie.Need-add-i Inv-loop μ-loop
 add-i c = search needs
@@ -36,4 +39,4 @@ returns c = search needs
 pub take-all-spec : {M : Type 1} → statement M
 take-all-spec =
     tie.close
-    (tie.spec Inv-loop μ-loop loop-holds shared-slice-read-take take-requires add-i loop-less loop-again returns)
+    (tie.spec Inv-loop μ-loop loop-holds shared-slice-read-take take-requires write-requires add-i loop-less loop-again returns)
