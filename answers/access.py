@@ -25,7 +25,6 @@ A = {
     'fields/index_by': bare(FIELDS + ' indexed', SPANS + ' wrapped', then=[COMPARISONS], returns='rw (eq-eqb _ _ (@if1 .taken))',
         returns_2='rw (ne-eqb _ _ (@if1 .left), ← @get .ensures) (@wrapping-add-u16 .ensures)'),
     'fields/less': bare(SPANS + ' wrapped', then=[OMEGA], returns='omega (arith, @wrapping-sub-u16 .ensures)'),
-    'addressing/in_memory': table('inMemory', 'mode', '2 3 6 7', False),
     'addressing/immediate': table('isImmediate', 'mode', '4 5 8 9', False),
     'addressing/based': table('isBased', 'mode', '2 3', False),
     'addressing/base_accumulator': table('baseAccumulator', 'operation', '39 48 60 68 74 79 94', True),

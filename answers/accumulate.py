@@ -15,18 +15,19 @@ def default(last, numbers):
 def reading(way, width, place, calls, given, after):
     name = {16: 'single', 32: 'double'}[width]
     outcome = '(%sd (@args .n) (contextOf %s) %s)' % (name, PLAIN, given)
-    read = '%s %s _ _ %d (@Start .pre .1) (@Start .pre .2) %s %s _ (@read-operand .ensures)' % (
-        STARTED, user(way, OF), way, words('reads', way, way, 0, OF), words('writes', way, way, 0, OF))
+    read = '%s %s _ _ %d (@Start .pre .1) (@Start .pre .2) %s %s _ (@read-operand .ensures %d (way-count (@args .n) %d %s (omega arith) %d refl))' % (
+        STARTED, user(way, OF), way, words('reads', way, way, 0, OF), words('writes', way, way, 0, OF), way, way, OF, way)
     effect = '(%sOutcome (contextOf %s) (@args .n) %s %s)' % (name, PLAIN, place, outcome)
     told = 'let o : @combine%d .result ≡ %s %s = rw (%s) (@combine%d .ensures) in ' % (width, name, outcome, calls, width)
     first = 'let w = words-first %s (@if1 .taken) in ' % read
     state = ('%s-after (@args .core) (@done .result .core) %s (@args .n) %s _ _ _ %s (@done .ensures .1) (@following .ensures) (ap (λ r. r .cs) o) '
              '(@fixed-overflow .ensures ∙ ap (λ r. fixedOverflow (r .overflow)) o) _ (%s)' % (name, REGS, place, outcome, after))
     found = ' '.join('(w .%s-is)' % part for part in ('first', 'second')[:way])
-    return {'use': [EQUATIONS, OMEGA, WAY_LAWS + '{way-user, way-reads, way-writes, %sd, does-%s}' % (name, name), END_LAWS + '{words-first, read-done, read-refused, %s-after}' % name,
+    return {'use': [EQUATIONS, OMEGA, WAY_LAWS + '{way-user, way-reads, way-writes, way-count, %sd, does-%s}' % (name, name), END_LAWS + '{words-first, read-done, read-refused, %s-after}' % name,
                     STATE + '{joined}', ISA + '{contextOf}', FIXED + '{%s}' % name, ACCESSES + '{atOperand}', 'Rattle.isa.specs.Integers.{%sOutcome}' % name,
                     EFFECTS + '{fixedOverflow}', FIELDS + '{withRegister}', ADDRESSING + '{accumulator}'],
             'unf': {'*': 'atOperand contextOf ' + name},
+            'read-operand-requires': '(@Start .pre .0, @Start .pre .3, @Start .pre .5, omega (arith, %s))' % OF,
             'returns': told + first + 'read-done %s %s _ _ _ (@if1 .taken) (does-%s (@args .n) %s _ _ %s %s) (@done .ensures .0) (%s)' % (
                 read, effect, name, OF, ' '.join(['_'] * way), found, state),
             'returns-2': 'read-refused %s _ _ _ (@if1 .left) (@refused .ensures .0) (@refused .ensures .1) refl' % read}
@@ -38,7 +39,8 @@ FIRST, VALUE = '@target-of .result', '(@combine32 .result .value)'
 
 A = {
     'finish/done': by(STEP + ' affected', STATE + ' withPi withSw withIc withRegs', returns='(refl, λ regs e i j k. rw (i, j, k, ← @with-cs .ensures) refl)'),
-    'operand/read_operand': by(ACCESSES + ' atOperand', returns='rw (← @in-memory .ensures, @if1 .taken) (@gather .ensures)', returns_2='rw (← @in-memory .ensures, @if1 .left) (@gather2 .ensures)'),
+    'operand/read_operand': by(ACCESSES + ' atOperand', use=[OMEGA, WAY_LAWS + '{way-counted}'], gather_requires='(@Start .pre .0, @Start .pre .1, @read-count .ensures .1)',
+        returns='λ k e. rw (way-counted (@args .n) (@Start .pre .3) _ (@read-count .ensures .0) k e) (@gather .ensures)'),
     'single/plain16': by(FIXED + ' single', WAYS + ' plain', returns='rw (← @status16 .ensures) refl'),
     'single/combine16': by(WAYS + ' intoSingle', use=[LISTS, OTHERWISE], arms='@arm', returns_5=default('plain163', '55 63 81 82')),
     'single/into_single': reading(1, 16, '(accumulator (@args .n))', '← @accumulator-of .ensures .0, ← @get .ensures, ← @operand-of .ensures', '(@read-operand .result .x)',

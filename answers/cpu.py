@@ -29,7 +29,7 @@ A = {
         'Inv-loop': '(length memory ≡ length memory₀) × (length pages ≡ length pages₀) × (length ports ≡ length ports₀) × '
             '(steps mil1750 due₀ (machine (joined t₀ regs₀) memory₀ pages₀ ports₀) ≡ steps mil1750 due (machine (joined t regs) memory pages ports))',
         'μ-loop': 'due', 'loop-holds': '(refl, refl, refl, refl)', 'default': 'omega arith',
-        'go-on-requires': '(omega arith, omega arith, @Start .pre .2, @Start .pre .3, @loop-test .taken)',
+        'go-on-requires': '(omega arith, omega arith, @Start .pre .2, @loop-test .taken)',
         'loop-again': 'let l = @loop in (%s, l .inv .3 ∙ @go-on .ensures .1)' % ', '.join('@go-on .kept %s.0 ∙ l .inv .%d' % ('.1 ' * (2 + k), k) for k in range(3)),
         'same-length': '@loop .inv .0', 'same-length-2': '@loop .inv .1', 'same-length-3': '@loop .inv .2',
         'returns': 'let l = @loop in machine-became (sym (l .inv .3 ∙ steps-none mil1750 (l .due) (machine (joined (l .t) (l .regs)) (l .memory) (l .pages) (l .ports)) (@loop-test .left)))'},
@@ -37,7 +37,7 @@ A = {
         'use': [EQUATIONS, MACHINE + '{machine, Became}', RUNS + '{numberOf, answerOf}', ISA + '{mil1750}', 'Rattle.cpu.proofs.AskLaws.{admitted}',
                 'Rattle.machine.proofs.RunLaws.{spent-left, refused-left}', BECAME],
         'unf': {'*': 'answerOf'},
-        'run-steps-requires': '(admitted _ _ _ _ _ %s .0, admitted _ _ _ _ _ %s .1, @table .ensures, @table2 .ensures)' % (SPENT, SPENT),
+        'run-steps-requires': '(admitted _ _ _ _ _ %s .0, admitted _ _ _ _ _ %s .1, @table .ensures)' % (SPENT, SPENT),
         'returns': '(@ask .ensures, rw (spent-left mil1750 %s (@args .budget) %s, @join .ensures, ← @part .ensures) (@run-steps .ensures))' % (GIVEN, SPENT),
         'returns-2': '(@ask .ensures, machine-became (sym (refused-left mil1750 %s (@args .budget) (λ e. @if1 .left (@number .ensures ∙ ap numberOf (@ask .ensures) ∙ e)))))' % GIVEN},
 }

@@ -16,15 +16,20 @@ def written(way, count, known):
 # one word: as it was got, and as the definition says
 STORED = '(stored %s (@args .n) (@word-stored .result) 0 0)' % CONTEXT
 NOTHING = '(stored %s (@args .n) (wordStored (@args .regs .now) (@args .n)) 0 0)' % CONTEXT
-SEEN = '(sym (@in-memory .ensures) ∙ @if1 .%s)'
+# whether the operand is in memory, by the number of words written
+def counted(law, way, k, fact):
+    return '(%s (inMemory (modeOf (@args .n .form))) %d _ (way-stored (@args .n) (omega (arith, %s)) _ (@write-count .ensures .0) %d (way-store (@args .n) %d %s (omega arith) %d refl)) (%s))' % (law, k - 1, OF, k, way, OF, k, fact)
+
+
+SEEN = {'taken': counted('some-words', 3, 1, '@if1 .taken'), 'left': counted('no-words', 3, 1, '@if1 .left')}
 STORE = '%s %s %s' % (STARTED, user(3, OF), words('reads', 3, 0, 1, OF))
-ONE = '%s %s %s _ (@look-up .ensures)' % (STORE, KEYS, written(3, 1, SEEN % 'taken'))
+ONE = '%s %s %s _ (@look-up .ensures)' % (STORE, KEYS, written(3, 1, SEEN['taken']))
 # two words: as they were got, and as the definition says
 GOT = '(stored %s (@args .n) (@get .result) (@get2 .result) 0)' % CONTEXT
 HELD = '(stored %s (@args .n) (register (@args .regs .now) (accumulator (@args .n))) (register (@args .regs .now) (accumulator (@args .n) + 1)) 0)' % CONTEXT
 PAIR = '%s %s %s' % (STARTED, user(5, OF), words('reads', 5, 0, 2, OF))
-UNSEEN = '(sym (@in-memory .ensures) ∙ not-%s (@in-memory .result) (@if1 .%s))'
-BOTH = '%s %s %s' % (PAIR, KEYS, written(5, 2, UNSEEN % ('false', 'left')))
+UNSEEN = {'taken': counted('no-words', 5, 2, 'omega (arith, @if1 .taken)'), 'left': counted('some-words', 5, 2, 'omega (arith, @if1 .left)')}
+BOTH = '%s %s %s' % (PAIR, KEYS, written(5, 2, UNSEEN['left']))
 AT_FIRST = '← @look-up .ensures, @first%s .given .1'
 AT_SECOND = '← @wrapping-add-u16 .ensures, ← @look-up2 .ensures, @second%s .given .1'
 
@@ -39,27 +44,31 @@ def branched(call, taken, branch, ic):
         user(4, '(@Start .pre)'), words('reads', 4, 0, 0, '(@Start .pre)', 'regs'), words('writes', 4, 0, 0, '(@Start .pre)', 'regs'), effect, seen, call, call, effect, ic))
 
 
+# the way of an instruction, by the range of its form number
+WAY = '(number-way (@args .n .form) (@args .number) (@Start .pre .4) (search needs) (omega (arith, @Start .pre .6)) ∙ omega (arith, @Start .pre .5, @Start .pre .6))'
+RULED = '(@Start .pre .0, @Start .pre .1, @Start .pre .2, @Start .pre .3, %s, @Start .pre .4)' % WAY
+
 A = {
     'store/word_stored': by(WAYS + ' wordStored', use=[TESTS], returns='rw (eq-eqb _ _ (@if1 .taken), ← @accumulator-of .ensures .0) (@get .ensures)',
         returns_2='rw (ne-eqb _ _ (@if1 .left)) (@field-a .ensures .0)'),
     'store/store_one': {
-        'use': [EQUATIONS, OMEGA, WAY_LAWS + '{way-user, way-reads, way-writes, does-store}', END_LAWS + '{store-done, store-refused, idle-done}', 'mathlib.Core.Bool.{false, cond}',
-                STATE + '{joined}', ISA + '{contextOf}', WAYS + '{wordStored}', EFFECTS + '{effect, stored, following}', FIELDS + '{withRegisters}', MACHINE + '{spanFrom}', LOCATED],
+        'use': [EQUATIONS, OMEGA, WAY_LAWS + '{way-user, way-reads, way-writes, way-stored, way-store, some-words, no-words, does-store}', END_LAWS + '{store-done, store-refused, idle-done}', 'mathlib.Core.Bool.{false, cond}',
+                STATE + '{joined}', ADDRESSING + '{inMemory}', FORMS + '{modeOf}', ISA + '{contextOf}', WAYS + '{wordStored}', EFFECTS + '{effect, stored, following}', FIELDS + '{withRegisters}', MACHINE + '{spanFrom}', LOCATED],
         'unf': {'*': 'contextOf effect stored following withRegisters'},
-        'mul-memory': 'omega (arith, %s)' % inside('place'), 'slice-write-memory': inside('place'),
+        'mul-memory': 'omega (arith, %s)' % inside('place'), 'slice-write-memory': inside('place'), 'write-count-requires': '@Start .pre .5',
         'returns': 'store-done %s _ _ %s _ _ _ (@place .given .1) refl (does-store (@args .n) %s _ _ ∙ ap (λ x. stored %s (@args .n) x 0 0) (sym (@word-stored .ensures))) (@done .ensures .0) %s' % (
             ONE, STORED, OF, CONTEXT, STATE_AFTER % ('done', STORED)),
         'returns-2': 'store-refused %s _ _ _ _ (@place2 .given .1) (@refused .ensures .0) (@refused .ensures .1) refl' % ONE,
         'returns-3': 'idle-done %s false %s %s _ _ _ (does-store (@args .n) %s _ _) (@done2 .ensures .0) %s' % (
-            STORE, written(3, 1, SEEN % 'left'), NOTHING, OF, STATE_AFTER % ('done2', NOTHING))},
+            STORE, written(3, 1, SEEN['left']), NOTHING, OF, STATE_AFTER % ('done2', NOTHING))},
     'store/store_two': {
-        'use': [EQUATIONS, OMEGA, 'borrow.Author.Tests.{not-true, not-false}', WAY_LAWS + '{way-user, way-reads, way-writes, does-pair}', END_LAWS + '{pair-done, pair-refused, idle-done}',
-                'mathlib.Core.Bool.{false, cond}', STATE + '{joined}', ISA + '{contextOf}', EFFECTS + '{effect, stored, following}', FIELDS + '{withRegisters, register}',
+        'use': [EQUATIONS, OMEGA, WAY_LAWS + '{way-user, way-reads, way-writes, way-stored, way-store, some-words, no-words, does-pair}', END_LAWS + '{pair-done, pair-refused, idle-done}',
+                'mathlib.Core.Bool.{false, cond}', STATE + '{joined}', ADDRESSING + '{inMemory}', FORMS + '{modeOf}', ISA + '{contextOf}', EFFECTS + '{effect, stored, following}', FIELDS + '{withRegisters, register}',
                 ADDRESSING + '{accumulator}', 'Prim.Native.Nat.{_+_}', SPANS + '{wrapped, andThen}', MACHINE + '{spanFrom}', LOCATED],
         'unf': {'*': 'contextOf effect stored following withRegisters wrapped andThen'},
-        'put-two-requires': '(%s, %s)' % (inside('first'), inside('second', 'look-up2')),
+        'put-two-requires': '(%s, %s)' % (inside('first'), inside('second', 'look-up2')), 'write-count-requires': '@Start .pre .5',
         'returns': 'idle-done %s false %s %s _ _ _ (does-pair (@args .n) %s _ _) (@done .ensures .0) %s' % (
-            PAIR, written(5, 2, UNSEEN % ('true', 'taken')), HELD, OF, STATE_AFTER % ('done', HELD)),
+            PAIR, written(5, 2, UNSEEN['taken']), HELD, OF, STATE_AFTER % ('done', HELD)),
         'returns-2': 'rw (@put-two .ensures) (pair-done %s _ _ _ _ %s _ _ _ (rw (%s) refl) (rw (%s) refl) refl (rw (@get .ensures, @get2 .ensures, @accumulator-of .ensures .0, '
             '@accumulator-of2 .ensures .0) (does-pair (@args .n) %s _ _)) (@done2 .ensures .0) %s)' % (BOTH, GOT, AT_FIRST % '', AT_SECOND % '', OF, STATE_AFTER % ('done2', GOT)),
         'returns-3': 'pair-refused %s _ _ _ _ (rw (%s, %s) refl) (@refused .ensures .0) (@refused .ensures .1) refl' % (BOTH, AT_FIRST % '', AT_SECOND % '2'),
@@ -73,7 +82,7 @@ A = {
         'unf': {'*': 'contextOf effect jumped following withRegisters'},
         'returns': branched('done', 'true', 'taken', 'refl'), 'returns-2': branched('done2', 'false', 'left', '(sym (@following .ensures))')},
     'direct': {
-        'use': [EQUATIONS, OMEGA],
-        'branch-requires': 'omega (arith, @Start .pre .4, @Start .pre .5, @Start .pre .6, @if1 .left, @if2 .left, @if3 .left, @if4 .left)',
-        'returns-5': '@branch .ensures (@args .regs .now) (@args .memory .now) (@args .pages .now)'},
+        'use': [EQUATIONS, OMEGA, 'Rattle.needs.proofs.NumberLaws.{number-way}'],
+        **{call + '-requires': RULED for call in ('into-single', 'into-double', 'store-one', 'store-two')}, 'branch-requires': WAY,
+        'returns-4': '@branch .ensures (@args .regs .now) (@args .memory .now) (@args .pages .now)'},
 }

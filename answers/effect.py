@@ -38,7 +38,5 @@ A = {
     'shapes/replaced': {'use': [TESTS, EFFECTS + '{replaced}', ADDRESSING + '{isRegister}', FIELDS + '{fieldB}'],
         'unf': {'*': 'replaced isRegister fieldB'},
         'returns': 'λ regs. rw (eq-eqb _ _ (@if1 .taken)) (@loaded .ensures regs)', 'returns-2': 'λ regs. rw (ne-eqb _ _ (@if1 .left)) (@stored .ensures regs)'},
-    'shapes/jumped': {'use': [WORK + '{worked, filled}', EFFECTS + '{effect, jumped, nothing}'], 'unf': {'*': 'worked filled effect jumped', 'returns-2': 'jumped nothing'},
-        'returns': 'λ regs. rw (@if1 .taken, %s) refl' % CS, 'returns-2': 'λ regs. rw (@if1 .left) (@nothing .ensures regs)'},
     'shapes/nothing': case('nothing stored', 'regs', [], 'stored'),
 }

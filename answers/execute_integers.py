@@ -9,7 +9,7 @@ LETS = {'a': '← @field-a .ensures .0', 'k': '← @accumulator-of .ensures .0',
 
 
 # an operation: for each arm the shared facts, the calls for the operands, the arithmetic and the shape; nth counts a function's calls
-def operation(definition, rows, opened=''):
+def operation(definition, rows, opened='', absent=0):
     calls, answers = {}, {'use': [INTEGERS + '{%s}' % definition] + [DOUBLES] * (opened != ''), 'unf': {'*': definition + opened}}
 
     def nth(name):
@@ -26,7 +26,8 @@ def operation(definition, rows, opened=''):
         else:
             steps, closed = steps + ['← ' + leaf], closed + ' _ _'
         answers['returns' + ('-%d' % place if place > 1 else '')] = 'rw (%s) (%s)' % (', '.join(steps), closed)
-    answers['returns-%d' % (len(rows) + 1)] = 'rw (%s) (@nothing .ensures _)' % others(len(rows))
+    excluded = ''.join('ne-eqb _ _ (@Start .pre .%d), ' % i for i in range(absent))
+    answers['returns-%d' % (len(rows) + 1)] = 'rw (%s%s) (@nothing .ensures _)' % (excluded, others(len(rows)))
     return answers
 
 
@@ -39,15 +40,13 @@ A = {
     'outcomes/quotient_outcome': {'use': [INTEGERS + '{quotientOutcome}'], 'unf': {'*': 'quotientOutcome'}, 'returns': 'λ regs sw. rw (← @fixed-overflow .ensures) (@result2 .ensures regs sw)'},
     'outcomes/combine32': {'use': [DOUBLES], 'unf': {'*': 'arithmetic'}, 'pair-at-requires': '@Start .pre',
         **{'returns' + i: 'rw (%s, ← @pair-at .ensures, ← @double-operand .ensures) (@%s .ensures)' % (keys, leaf)
-           for i, keys, leaf in (('', '@match .keys1', 'add32'), ('-2', '@match .keys2', 'sub32'), ('-3', '@match .keys3', 'multiply32'), ('-4', others(3), 'divide32'))}},
+           for i, keys, leaf in (('', '@match .keys1', 'multiply32'), ('-2', others(1), 'divide32'))}},
     'integer_operation': operation('integerOperation', [
-        ('ko', 'get', 'add16', 'single-outcome'), ('a', '', 'add16', 'memory-outcome'), ('ao', '', 'absolute16', 'single-outcome'),
-        ('a', 'double-operand', 'absolute32', 'double-outcome'), ('a', '', 'combine32', 'double-outcome'),
-        ('ko', 'get', 'sub16', 'single-outcome'), ('a', '', 'sub16', 'memory-outcome'), ('ao', '', 'negate16', 'single-outcome'),
-        ('a', 'double-operand', 'negate32', 'double-outcome'), ('a', '', 'combine32', 'double-outcome'),
+        ('a', '', 'add16', 'memory-outcome'), ('ao', '', 'absolute16', 'single-outcome'), ('a', 'double-operand', 'absolute32', 'double-outcome'),
+        ('a', '', 'sub16', 'memory-outcome'), ('ao', '', 'negate16', 'single-outcome'), ('a', 'double-operand', 'negate32', 'double-outcome'),
         ('ao', 'get', 'multiply16', 'single-outcome'), ('ko', 'get', 'multiply-long', 'double-outcome'), ('a', '', 'combine32', 'double-outcome'),
-        ('ao', 'get', 'divide16', 'quotient-outcome'), ('ko', 'pair-at', 'divide-long', 'quotient-outcome'), ('a', '', 'combine32', 'double-outcome')], ' arithmetic'),
+        ('ao', 'get', 'divide16', 'quotient-outcome'), ('ko', 'pair-at', 'divide-long', 'quotient-outcome'), ('a', '', 'combine32', 'double-outcome')], ' arithmetic', 4),
     'logical_operation': operation('logicalOperation', [
-        ('ko', 'get', 'or', 'single'), ('ko', 'get', 'and', 'single'), ('ao', 'get', 'xor', 'single'), ('ao', 'get', 'nand', 'single'), ('a', 'get', 'exchange-bytes', 'single'),
-        ('ko', 'get', 'compare16', 'tested'), ('a', 'get', 'compare-limits', 'tested'), ('a', 'pair-at double-operand', 'compare32', 'tested')]),
+        ('ao', 'get', 'xor', 'single'), ('ao', 'get', 'nand', 'single'), ('a', 'get', 'exchange-bytes', 'single'),
+        ('ko', 'get', 'compare16', 'tested'), ('a', 'get', 'compare-limits', 'tested'), ('a', 'pair-at double-operand', 'compare32', 'tested')], absent=2),
 }

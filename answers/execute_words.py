@@ -24,17 +24,16 @@ A = {
     'jumps/subtracted_and_jumped': {'use': [WORK, EFFECTS + '{following, effect}', WORDS + '{subtractedAndJumped}'],
         'unf': {'*': 'worked filled following effect subtractedAndJumped'}, 'returns': 'λ regs sw. rw (%s) refl' % fold('field-a unless-zero status16')},
     'jumps/jump_operation': group('jumpOperation following', [SPANS + '{wrapped}', EFFECTS + '{following}'], [
-        (24, 'field-a cs-of taken', keeping('jumped')), (25, 'following', shape('called')),
-        (26, 'field-a get', shape('subtracted-and-jumped'), moved('less', 'get', 65535)),
-        (36, 'field-a get2 following2', shape('called2'), moved('less2', 'get2', 65535)),
-        (37, 'field-a get3', shape('called3'), moved('wrapping-add-u16', 'get3', 1))], 'cs-of2 branches', keeping('jumped2')),
+        (25, 'following', shape('called')), (26, 'field-a get', shape('subtracted-and-jumped'), moved('less', 'get', 65535)),
+        (36, 'field-a get2 following2', shape('called2'), moved('less2', 'get2', 65535))], '', ''),
     'loads/load_operation': group('loadOperation', [], [
-        (38, 'accumulator-of operand-of', shape('single')), (39, 'accumulator-of2 double-operand', shape('double')),
         (41, 'field-a mantissa40 status', shape('result3')),
-        (42, 'field-a get operand-of2 load-upper', shape('single2')), (43, 'field-a get2 operand-of3 load-lower', shape('single3'))], '', keeping('nothing')),
+        (42, 'field-a get operand-of load-upper', shape('single')), (43, 'field-a get2 operand-of2 load-lower', shape('single2'))], '', keeping('nothing'), '38 39'),
     'stores/store_operation': group('storeOperation', [], [
-        (45, 'accumulator-of get', keeping('stored')), (46, 'field-a', keeping('stored2')), (48, 'accumulator-of get2 get3', keeping('stored3')),
-        (49, 'field-a get4 get5 store-masked', keeping('stored4')), (51, 'field-a get6 get7 get8', keeping('stored5')),
-        (52, 'field-a get9 store-upper', keeping('stored6')), (53, 'field-a get10 store-lower', keeping('stored7'))], '', keeping('nothing')),
+        (49, 'field-a get get2 store-masked', keeping('stored')), (51, 'field-a get3 get4 get5', keeping('stored2')),
+        (52, 'field-a get6 store-upper', keeping('stored3')), (53, 'field-a get7 store-lower', keeping('stored4'))], '', keeping('nothing'), '45 46 48'),
 }
-A['jumps/jump_operation']['unf']['returns-5'] = 'jumpOperation wrapped'
+# URS is the only one left
+A['jumps/jump_operation']['returns-4'] = moved('wrapping-add-u16', 'get3', 1) + 'rw (@Start .pre (@match .rest .0 .0 .1) (@match .rest .0 .1) (@match .rest .1), %s, ← e) (%s)' % (
+    fold('field-a get3'), shape('called3'))
+A['jumps/jump_operation']['unf']['returns-4'] = 'jumpOperation wrapped'

@@ -3,17 +3,18 @@ STAGES = 'Rattle.machine.specs.Instructions.'
 ACT = 'Rattle.moved.proofs.ActLaws.'
 USER = 'Rattle.instruct.proofs.UserLaws.'
 
-# the instruction as it was prepared
-PREPARED = 'prepared-later (@args .lag) %s (view %s %s), ← @prepare .ensures' % (PLAIN, PLAIN, PAGED)
+NUMBERS = 'Rattle.needs.proofs.NumberLaws.'
+WAY_LAWS = 'Rattle.accumulate.proofs.WayLaws.'
+
+# the instruction's form, by its form number
+NUMBER = '(@args .n .form) (@args .number)'
 # the words of an operation on blocks are checked, with the case of the answer
 CHECKED = '← @key-of .ensures .0, ← @group-of .ensures .0, ← @check-span .ensures, @%s .given .1'
 VERDICT = '_ _ _ (@reads .ensures .0) (@writes .ensures .0) (@verify .ensures)'
-# the words that any other reads and writes, by its need
-FORM = '(@args .n .form) (@args .need)'
-OFF_BLOCK = '(off-block %s (@Start .pre .6) (@if3 .left))' % FORM
-FROM = ('%s %s (@args .n) _ _ (@Start .pre .2) (@Start .pre .3) _ _ _ '
-        '(reads-by %s (@args .n) (@args .need) _ _ (@Start .pre .6) %s (@read-start .ensures) (@read-count .ensures .0)) (@gather .ensures)' % (LAGGING, PAGED, REGS, OFF_BLOCK))
-TO = '@span-from .ensures ∙ writes-by %s (@args .n) (@args .need) _ _ (@Start .pre .6) (@Start .pre .1) (@write-start .ensures) (@write-count .ensures .0)' % REGS
+# the words that any other reads and writes, by what it needs
+FROM = ('(later %%s %s) %s (@args .n) _ _ (@Start .pre .1) (@Start .pre .2) _ _ _ '
+        '(reads-by %s (@args .n) _ _ _ refl (@Start .pre .5) (@read-start .ensures) (@read-count .ensures .0)) (@gather .ensures)' % (PLAIN, PAGED, REGS))
+TO = '@span-from .ensures ∙ writes-by %s (@args .n) _ _ _ refl (@Start .pre .1) (@write-start .ensures) (@write-count .ensures .0)' % REGS
 # the machine that the operation is carried out on, at any time and with any ports
 CARRIED = '(later lag %s) %s ports (@args .n)' % (PLAIN, PAGED)
 STORES = CARRIED + ' _ _ _ _ (@Start .pre .3) (@Start .pre .4) (%s) (@check-span .ensures)' % TO
@@ -32,6 +33,18 @@ def became(fact):
 def settled(fact):
     return 'settled-by (@args .core) _ _ %s _ _ (@weighed .ensures .1) (@weighed .ensures .2) (@weighed .ensures .0) (%s)' % (REGS, fact)
 
+
+# what is carried out at any time and with any ports, at this time and with these
+def anywhere(call):
+    return '(@%s .ensures .0 (@args .lag) (@args .ports .now), @%s .ensures .1)' % (call, call)
+
+
+# the way by the range of the number; the form by the number; the first word as it was looked up
+WAY = '(number-way %s (@Start .pre .6) (search needs) (omega arith) ∙ omega arith)' % NUMBER
+REST = '(number-rest %s (@Start .pre .6) (search needs) (omega arith))' % NUMBER
+FORM = '(ap (λ m. m % 65536) (@Start .pre .6) ∙ number-form (decodeOf (@args .w)) (decode-small (@args .w)))'
+LATELY = 'prepared-later (@args .lag) %s (view %s %s)' % (PLAIN, PLAIN, PAGED)
+FETCHED = '%s %s _ _ (@Start .pre .3) (@Start .pre .4) _ (@look-up .ensures)' % (PLAIN, PAGED)
 
 A = {
     'verify': by(STAGES + ' both', use=[STATE + '{keyOf, groupOf}'],
@@ -59,29 +72,38 @@ A = {
             '(λ lag ports. rw (@deny .ensures .0, ← carried-fault %s _ _ _ refl refl refl _ (k .0), ← @advance .ensures) (%s), %s)'
             % (CARRIED, failed('ports', 'lag', 'k .2', 'ap (λ r. later lag (joined (@deny .result .core) r)) (k .1) ∙ '), DENIED)),
     'proceed': by(STAGES + ' operated', ISA + ' mil1750 contextOf',
-        use=[LATER, USER + '{writes-by, few-written, no-way, worked-ordinary, became-worked, settled-by}', ACT + '{accessed-clear, accessed-fault, failed}', STATE + '{joined}'],
+        use=[LATER, OMEGA, USER + '{writes-by, few-written, worked-ordinary, became-worked, settled-by}', WAY_LAWS + '{way-user}', ACT + '{accessed-clear, accessed-fault, failed}', STATE + '{joined}'],
         check_span_requires='(@Start .pre .0, @Start .pre .5)', write_start_requires='@Start .pre .6', write_count_requires='@Start .pre .6',
-        work_requires='(@Start .pre .0, rw (%s) (few-written %s (@args .n) (@Start .pre .1)))' % (TO, REGS),
-        returns='(λ lag ports. rw (← accessed-clear %s (@enum-told .given .1), no-way (@args .n) (@args .need) (@Start .pre .6) (@Start .pre .7)) (%s), %s)'
+        work_requires='(@Start .pre .0, rw (%s) (few-written %s (@args .n) (@Start .pre .1)), @Start .pre .7)' % (TO, REGS),
+        returns='(λ lag ports. rw (← accessed-clear %s (@enum-told .given .1), way-user (@args .n) 0 (@Start .pre .7) (omega arith)) (%s), %s)'
             % (STORES, became('worked-ordinary %s _ _ _ _ _ _ _ (@Start .pre .1) (@Start .pre .2) (%s) (@work .ensures .0) (@work .ensures .1)' % (STARTED, TO)),
                settled('@work .ensures .0')),
         returns_2='(λ lag ports. rw (@deny .ensures .0, ← accessed-fault %s _ (@verdict .given .1), ← @advance .ensures) (%s), %s)' % (STORES, failed('ports', 'lag'), DENIED)),
-    'carry': by(use=[LATER, OMEGA, USER + '{on-block, off-block, reads-by}', ACT + '{words-read, carried-read, carried-denied, failed}', STATE + '{joined}',
-                     'Rattle.needs.proofs.NeedsLaws.{way-told}'],
-        carry_system_requires='(@Start .pre .0, @Start .pre .1, @Start .pre .2, @Start .pre .3, @Start .pre .4, @Start .pre .5, way-told %s (@Start .pre .6), omega (arith, @if1 .taken))' % FORM,
-        carry_direct_requires='(@Start .pre .0, @Start .pre .2, @Start .pre .3, @Start .pre .4, way-told %s (@Start .pre .6), omega (arith, @if2 .taken), omega (arith, @if1 .left))' % FORM,
-        carry_block_requires='(@Start .pre .0, on-block %s (@Start .pre .6) (@if3 .taken), @Start .pre .2, @Start .pre .3, @Start .pre .4)' % FORM,
-        read_start_requires='@Start .pre .6', read_count_requires='@Start .pre .6',
-        gather_requires='(@Start .pre .0, @Start .pre .4, @read-count .ensures .1)',
-        proceed_requires='(@Start .pre .0, %s, words-read %s (@if4 .taken), @Start .pre .2, @Start .pre .3, @Start .pre .4, @Start .pre .6, omega (arith, @if2 .left))' % (OFF_BLOCK, FROM),
-        returns='@carry-system .ensures',
-        returns_2='(@carry-direct .ensures .0 (@args .lag) (@args .ports .now), @carry-direct .ensures .1)',
-        returns_3='(@carry-block .ensures .0 (@args .lag) (@args .ports .now), @carry-block .ensures .1)',
-        returns_4='(rw (← carried-read %s (@args .ports .now) (@if4 .taken)) (@proceed .ensures .0 (@args .lag) (@args .ports .now)), @proceed .ensures .1)' % FROM,
-        returns_5='(rw (@deny .ensures .0, ← carried-denied %s (@args .ports .now) (@if4 .left), ← @advance .ensures) (%s), %s)' % (FROM, failed(), DENIED)),
-    'instruct': by(STAGES + ' instructed carried', use=[LATER, ACT + '{failed}', USER + '{prepared-later}', STAGES + '{view}', STATE + '{joined}'],
-        prepare_requires='(@Start .pre .0, @Start .pre .3, @Start .pre .4, @Start .pre .5, @Start .pre .2)', need_with_requires='@Start .pre .7',
-        carry_requires='(@Start .pre .0, @Start .pre .1, @Start .pre .3, @Start .pre .4, @Start .pre .5, @Start .pre .6, @need-with .ensures)',
-        returns='(rw (%s, @prepared .given .1) (@carry .ensures .0), @carry .ensures .1)' % PREPARED,
-        returns_2='(rw (@deny .ensures .0, %s, @prepared2 .given .1) (%s), %s)' % (PREPARED, failed(), DENIED)),
+    'carry_ordinary': by(use=[LATER, USER + '{reads-by}', ACT + '{words-read, carried-read, carried-denied, failed}', STATE + '{joined}'],
+        read_start_requires='@Start .pre .4', read_count_requires='@Start .pre .4',
+        gather_requires='(@Start .pre .0, @Start .pre .3, @read-count .ensures .1)',
+        proceed_requires='(@Start .pre .0, @Start .pre .5, words-read %s (@if1 .taken), @Start .pre .1, @Start .pre .2, @Start .pre .3, @Start .pre .4, @Start .pre .6)' % (FROM % '0'),
+        returns='(λ lag ports. rw (← carried-read %s ports (@if1 .taken)) (@proceed .ensures .0 lag ports), @proceed .ensures .1)' % (FROM % 'lag'),
+        returns_2='(λ lag ports. rw (@deny .ensures .0, ← carried-denied %s ports (@if1 .left), ← @advance .ensures) (%s), %s)' % (FROM % 'lag', failed('ports', 'lag'), DENIED)),
+    'carry': by(use=[OMEGA, USER + '{on-block, off-block}', NUMBERS + '{number-least, number-way, number-block, number-rest}'],
+        carry_direct_requires='(@Start .pre .0, @Start .pre .2, @Start .pre .3, @Start .pre .4, @Start .pre .6, number-least %s (@Start .pre .6) (search needs), omega arith)' % NUMBER,
+        command_requires='(@Start .pre .0, @Start .pre .1, @Start .pre .5, %s)' % WAY, executive_requires='(@Start .pre .0, %s)' % WAY,
+        load_requires='(@Start .pre .0, @Start .pre .2, @Start .pre .3, @Start .pre .4, %s, @Start .pre .6)' % WAY,
+        carry_block_requires='(@Start .pre .0, on-block (@args .n .form) _ refl (number-block %s (@Start .pre .6) (search needs) (omega arith) (omega arith)), @Start .pre .2, @Start .pre .3, @Start .pre .4)' % NUMBER,
+        carry_ordinary_requires='(@Start .pre .0, @Start .pre .2, @Start .pre .3, @Start .pre .4, @Start .pre .6, off-block (@args .n .form) _ refl (λ z. let y = %s .1 in omega (arith, y, z)), %s .0)' % (REST, REST),
+        returns=anywhere('carry-direct'), returns_2='(@command .ensures .0 (@args .memory .now), @command .ensures .1)',
+        returns_3='(@executive .ensures .0 (@args .lag) %s (@args .ports .now), @executive .ensures .1)' % REGS, returns_4=anywhere('load'), returns_5=anywhere('carry-block'),
+        returns_6=anywhere('carry-ordinary')),
+    'begin': by(STAGES + ' carried', use=[LATER, ACT + '{failed}', USER + '{ready-form}', NUMBERS + '{number-form, decode-small}', 'Prim.Native.Nat.{_%_}', STAGES + '{view}', 'Rattle.needs.specs.Needs.{numberOf}',
+                     'Rattle.decode.specs.Decode.{decodeOf}', STATE + '{joined}'],
+        prepare_requires='(@Start .pre .0, @Start .pre .2, @Start .pre .3, @Start .pre .4, @Start .pre .7)',
+        carry_requires='(@Start .pre .0, @Start .pre .1, @Start .pre .2, @Start .pre .3, @Start .pre .4, @Start .pre .5, '
+            '@Start .pre .6 ∙ ap numberOf (sym (ready-form %s (view %s %s) _ _ _ _ (sym (@prepare .ensures) ∙ @prepared .given .1) ∙ %s)))' % (PLAIN, PLAIN, PAGED, FORM),
+        returns='(rw (← %s, ← @prepare .ensures, @prepared .given .1) (@carry .ensures .0), @carry .ensures .1)' % FORM,
+        returns_2='(rw (@deny .ensures .0, ← %s, ← @prepare .ensures, @prepared2 .given .1) (%s), %s)' % (FORM, failed(), DENIED)),
+    'instruct': by(STAGES + ' instructed carried', use=[LATER, OMEGA, LOCATED, ACT + '{failed}', USER + '{prepared-later, prepared-at, prepared-refused}', STAGES + '{view}', STATE + '{joined}'],
+        mul_w='omega (arith, %s)' % inside('first'), shared_slice_read_w=inside('first'), slice_read_w=inside('first'), decode_with_requires='@Start .pre .2',
+        begin_requires='(@Start .pre .0, @Start .pre .1, @Start .pre .3, @Start .pre .4, @Start .pre .5, @Start .pre .6, @decode-with .ensures, sym (@look-up .ensures) ∙ @first .given .1)',
+        returns='(rw (%s, prepared-at %s _ (@first .given .1)) (@begin .ensures .0), @begin .ensures .1)' % (LATELY, FETCHED),
+        returns_2='(rw (@deny .ensures .0, %s, prepared-refused %s _ (@first2 .given .1), ← @advance .ensures) (%s), %s)' % (LATELY, FETCHED, failed(), DENIED)),
 }

@@ -2,31 +2,54 @@
 USE = [EQUATIONS]
 OWN = 'Rattle.needs.specs.Needs.'
 LAWS = 'Rattle.needs.proofs.NeedsLaws.'
+NUMBERS = 'Rattle.needs.proofs.NumberLaws.'
+DECODE = 'Rattle.decode.specs.Decode.'
+DECODE_LAWS = 'Rattle.decode.proofs.DecodeLaws.'
+# all that a form number is computed from
+NUMBER = 'numberOf ruleOf countsOf needOf exceptions wayOf wordsRead wordsMoved wordsOfFloat wordsOfInteger wordsWritten inMemory'
+OPENED = [OWN + '{numberOf, ruleOf, countsOf, needOf, exceptions, wayOf}', ACCESSES + '{wordsMoved, wordsOfInteger, wordsOfFloat, wordsRead, wordsWritten}', ADDRESSING + '{inMemory}']
+PAGES = 'Rattle.decode.specs.Pages.{pages}'
+# the number of a form is that of the form in the instruction
+TOLD = '(@args .n .form) (@args .number) (@Start .pre) (search needs)'
 
 
-# where the words start that an operation reads or writes, and how many they are, by its need
-def start(done, register, call):
-    law = '%s-%s (@args .regs .now) (@args .n) (@args .need) (@Start .pre) p (@if1 .%s)'
-    return {'use': [LAWS + '{register-%s, operand-%s}' % (done, done)],
-            'returns': 'λ p. rw (%s, ← @field-a .ensures .0%s) (%s .ensures)' % (law % ('register', done, 'taken'), register, call),
-            'returns-2': 'λ p. rw (%s) refl' % (law % ('operand', done, 'left'))}
+# the entries of a constant, computed
+def entries(variable, lookup):
+    return {'use': [PAGES, DECODE + '{lookup}', *OPENED, 'Rattle.choice.proofs.TableLaws.{tabled}', 'Prim.Native.Nat.{ℕ}'], 'unf': {'*': 'pages ' + NUMBER},
+            'array-read-result': 'search needs', 'returns': 'tabled (λ (k : ℕ). numberOf (%s)) 16 (@args .%s) (array-read-result c)' % (lookup, variable)}
 
 
-def count(done):
-    law = '%s-%s regs (@args .n) (@args .need) (@Start .pre) p (%s)'
-    operand = law % ('operand', done, 'λ q. omega (arith, q, @if1 .taken)')
-    return {'use': [OMEGA, LAWS + '{register-%s, operand-%s}' % (done, done)],
-            'returns': '(λ regs p. rw (%s, ← @in-memory .ensures, @if2 .taken) refl, omega arith)' % operand,
-            'returns-2': '(λ regs p. rw (%s, ← @in-memory .ensures, @if2 .left) refl, omega arith)' % operand,
-            'returns-3': '(λ regs p. rw (%s) refl, omega arith)' % (law % ('register', done, 'omega (arith, @if1 .left)'))}
+# where the words start that an operation reads or writes
+def start(done, mark, register, call):
+    law = '%s-%s (@args .regs .now) (@args .n) _ refl p (%s)'
+    told = 'sym (number-%s %s) ∙ @if1 .taken' % (mark, TOLD)
+    untold = 'λ z. @if1 .left (number-%s %s ∙ z)' % (mark, TOLD)
+    return {'use': [LAWS + '{register-%s, operand-%s}' % (done, done), NUMBERS + '{number-%s}' % mark],
+            'returns': 'λ p. rw (%s, ← @field-a .ensures .0%s) (%s .ensures)' % (law % ('register', done, told), register, call),
+            'returns-2': 'λ p. rw (%s) refl' % (law % ('operand', done, untold))}
 
+
+# and how many they are
+def count(law):
+    return {'use': [OMEGA, NUMBERS + '{%s}' % law], 'returns': '(λ regs p. %s regs (@args .n) (@args .number) (@Start .pre) (search needs) p, omega arith)' % law}
+
+
+# the number of a first word by that of its opcode, and what the bits after the opcode choose
+DECODED = 'decoded _ (@args .first) (@Start .pre) (search needs)'
+CHOSEN = 'rw (%s, @match .keys%%d) (@%%s .ensures)' % DECODED
 
 A = {
-    'table': {'use': [OWN + '{exceptions, wayOf, needOf, allNeeds}', ACCESSES + '{wordsMoved, wordsOfInteger, wordsOfFloat, wordsRead, wordsWritten}'],
-        'unf': {'*': 'allNeeds needOf exceptions wayOf wordsRead wordsMoved wordsOfFloat wordsOfInteger wordsWritten'}, 'returns': 'refl'},
-    'need_with': {'use': [LAWS + '{need-listed}'], 'returns': 'need-listed (@args .table .now) (@args .form) (@Start .pre)'},
-    'read_start': start('read', '', '@get'),
-    'read_count': count('read'),
-    'write_start': start('written', ', ← @get .ensures', '@less'),
-    'write_count': count('written'),
+    'table': {'use': [OWN + '{numbers}', *OPENED, DECODE + '{formOf}', PAGES], 'unf': {'*': 'numbers formOf pages ' + NUMBER}, 'returns': 'refl'},
+    'indexed': entries('upper', 'lookup 0x40 k 0'),
+    'immediate': entries('lower', 'lookup 0x4A 0 k'),
+    'special': {'use': [*OPENED, OTHERWISE, DECODE_LAWS + '{special, under-ff}'], 'unf': {'*': 'special ' + NUMBER},
+        'returns': 'rw (under-ff (@args .first), @match .keys1)', 'returns-2': 'rw (under-ff (@args .first), @match .keys2)',
+        'returns-3': 'rw (under-ff (@args .first)) (ap numberOf (sym (otherwise _ special 0 (@match .rest))))'},
+    'decode_with': {'use': [OTHERWISE, NUMBERS + '{extended, paragraphed, decoded}'], 'unf': {'*': 'extended'},
+        'returns': 'rw (%s) (paragraphed _ _ _ (@if1 .taken))' % DECODED, 'returns-2': CHOSEN % (1, 'indexed'), 'returns-3': CHOSEN % (2, 'immediate'),
+        'returns-4': CHOSEN % (3, 'special'), 'returns-5': 'rw (%s) (sym (otherwise _ (extended _ _) _ (@match .rest)))' % DECODED},
+    'read_start': start('read', 'read', '', '@get'),
+    'read_count': count('reads-counted'),
+    'write_start': start('written', 'written', ', ← @get .ensures', '@less'),
+    'write_count': count('writes-counted'),
 }

@@ -14,8 +14,10 @@ def looked(place, found, call):
 
 
 A = {
-    'rows/find_row': by(use=[OMEGA, LOCATED], sub_if2='omega (arith, %s)' % inside('place'),
-        returns_4='(sym (@look-up .ensures) ∙ @place .given .1, omega arith, omega (arith, %s))' % inside('place')),
+    'rows/find_row': by('Rattle.one_page.specs.Rows. fitting rowOf', use=[OMEGA, LIMITS, LOCATED], sub_if2='omega (arith, %s)' % inside('place'),
+        returns='rw (lt-ltb _ _ (@if1 .taken)) refl', returns_2='rw (le-ltb _ _ (@if1 .left), ← @look-up .ensures, @enum-told .given .1) refl',
+        returns_3='rw (le-ltb _ _ (@if1 .left), ← @look-up .ensures, @place .given .1, lt-ltb _ _ (@if2 .taken)) refl',
+        returns_4='rw (le-ltb _ _ (@if1 .left), ← @look-up .ensures, @place .given .1, le-ltb _ _ (@if2 .left)) refl'),
     'rows/store_row': by(use=[OMEGA, NATURALS, LENGTHS, ROWS, HERE + '{stored-none, stored-step}'],
         Inv_loop='(i + left ≤ 16) × (p + i + left ≤ length memory₀) × (length memory ≡ length memory₀) × (storedAt (upwards p) regs count 0 memory₀ ≡ storedAt (upwards p) regs left i memory)', mu_loop='left',
         loop_holds='(omega arith, omega arith, refl, refl)',

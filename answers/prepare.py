@@ -11,7 +11,6 @@ ADMITTED = 'ne-eqb _ _ (@if1 .left), ' + KEYED + ', ← @class-of .ensures, ← 
 # the second word follows the first in its page; the first is inside the memory
 FOLLOWING = 'eq-eqb _ _ (@if1 .taken), lookup-next _ _ _ _ _ (@args .ic) (omega arith) _ (@Start .pre .2)'
 NEXT_BOUND = '(@args .at + 1) (length (@args .memory .now)) (omega arith)'
-FIRST = inside('first')
 
 A = {
     'class_of': by(ISA + ' classOf', FORMS + ' privilegedOperations', use=[TESTS, OMEGA], arms='@arm',
@@ -32,12 +31,7 @@ A = {
         returns_4='rw (ne-eqb _ _ (@if1 .left))'),
     'extend': by(STAGES + ' extended', STATE + ' advanced', use=[LAWS],
         returns='rw (%s) (@derive .ensures)' % (SECOND % 'second' + BACK), returns_2='rw (%s, ← @advance .ensures) refl' % (SECOND % 'second2')),
-    'admit': by(STAGES + ' decoded granted', STATE + ' advanced', ISA + ' mil1750', use=[TESTS],
+    'prepare': by(STAGES + ' decoded granted', STATE + ' advanced', ISA + ' mil1750', use=[TESTS],
         returns='rw (eq-eqb _ _ (@if1 .taken), ← @advance .ensures) refl',
         returns_2='rw (%s) (@extend .ensures)' % (ADMITTED + ', @if2 .taken' + BACK), returns_3='rw (%s, @if2 .left, ← @advance2 .ensures) refl' % ADMITTED),
-    'prepare': by(STAGES + ' prepared fetched', STATE + ' advanced', ISA + ' mil1750', SPANS + ' gotAt', use=[OMEGA, LOCATED],
-        mul_w='omega (arith, %s)' % FIRST, shared_slice_read_w=FIRST,
-        admit_requires='search (needs, sym (@look-up .ensures) ∙ @first .given .1)',
-        returns='rw (' + KEYED + ', ← @look-up .ensures, @first .given .1, ← @decode-with .ensures' + BACK + ') (@admit .ensures)',
-        returns_2='rw (' + KEYED + ', ← @look-up .ensures, @first2 .given .1, ← @advance .ensures) refl'),
 }

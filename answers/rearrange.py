@@ -25,8 +25,10 @@ A = {
         pop_words_requires='(@field-a .ensures .1, omega (arith, @registers-from .ensures .1), rw (@registers-from .ensures .0, @field-a .ensures .0, @field-b .ensures .0) (@Start .pre))',
         returns='rw (%s, ← @get .ensures, ← @pop-words .ensures, ← @wrapping-add-u16 .ensures) (@put .ensures)' % COUNT_AB),
     'registers/push_stack': by(registers_from_requires=BOUNDS_AB, returns='rw (%s, ← @get .ensures, ← @less .ensures) (@put .ensures)' % COUNT_AB),
-    'registers/change': by(BLOCKS + ' changedBy', SPANS + ' wrapped', returns='rw (← @get .ensures, ← @wrapping-add-u16 .ensures) (@put .ensures)'),
-    'registers/move_on': by(BLOCKS + ' movedOn', returns='rw (← @change .ensures, ← @change2 .ensures) (@change3 .ensures)'),
+    'registers/raise': by(BLOCKS + ' changedBy', SPANS + ' wrapped', returns='rw (← @get .ensures, ← @wrapping-add-u16 .ensures) (@put .ensures)'),
+    'registers/lower': by(BLOCKS + ' changedBy', use=['Prim.Native.Nat.{_+_}', SPANS + '{wrapped}'],
+        returns='let e : @less .result ≡ wrapped (@get .result + 65535) = @less .ensures in rw (← @get .ensures, ← e) (@put .ensures)'),
+    'registers/move_on': by(BLOCKS + ' movedOn', returns='rw (← @raise .ensures, ← @raise2 .ensures) (@lower .ensures)'),
     'registers/exchange': by(
         returns='(rw (← @field-b .ensures .0, ← @get2 .ensures) (@status16 .ensures), rw (%s, ← @get .ensures, ← @get2 .ensures, ← @put .ensures) (@put2 .ensures))' % FIELDS_AB),
     'operation/settle': by(STEP + ' affected', BLOCKS + ' rearranged', ISA + ' contextOf', STATE + ' withRegs withIc withSw withPi withCs', returns='λ regs after ws. refl'),

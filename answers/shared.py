@@ -95,14 +95,24 @@ def fold(calls):
     return ', '.join(folded(call) for call in calls.split())
 
 
+# that a number is none of some that the function's requires excludes, nor of those of a match
+def none_of(absent, keys):
+    facts = ['@Start .pre%s' % (' .%d' % i if absent > 1 else '') for i in range(absent)] + ['@match .rest%s .1' % (' .0' * i) for i in reversed(range(keys))]
+    proof = 'tt'
+    for fact in facts:
+        proof = '(%s, %s)' % (proof, fact)
+    return proof
+
+
 # an operation's match: for each arm its key, the calls to fold back, the shape's fact and, where there is one, an equation e to fold back too;
-# then the calls and the shape's fact of the default
-def group(definitions, imports, arms, calls, last):
+# then the calls and the shape's fact of the default, and the numbers before the arms' that the function's requires excludes
+def group(definitions, imports, arms, calls, last, absent=''):
     answer = {'use': [LISTS, 'Prim.Native.Nat.{_+_, _%_}', OTHERWISE, WORDS + '{%s}' % definitions.split()[0]] + imports, 'unf': {'*': definitions}}
     for place, (_, inner, fact, *equation) in enumerate(arms, 1):
         rewrites = ['@match .keys%d' % place] + [folded(call) for call in inner.split()] + ['← e'] * len(equation)
         answer['returns' + ('-%d' % place if place > 1 else '')] = ''.join(equation) + 'rw (%s) (%s)' % (', '.join(rewrites), fact)
-    default = '%s ∙ sym (%s)' % (last, rest('(@args .n .form % 256)', ' '.join(str(arm[0]) for arm in arms)))
+    keys = [str(arm[0]) for arm in arms]
+    default = '%s ∙ sym (otherwise (@args .n .form %% 256) %s _ %s)' % (last, rules(absent + ' ' + ' '.join(keys)), none_of(len(absent.split()), len(keys)))
     answer['returns-%d' % (len(arms) + 1)] = 'rw (%s) (%s)' % (fold(calls), default) if calls else default
     return answer
 

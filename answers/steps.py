@@ -31,7 +31,7 @@ ROW = ('mil1750 (@args .from) (l .lag) (l .inv .3) (later (@args .from) (joined 
 CHOSEN = 'rw (chosen-settled _ _ s (l .regs) _) (l .inv .10 (@if2 .left))'
 OBEYED = ('let l = @loop in rw (@%%s .ensures) (record { onward = omega (arith, l .inv .3); within = omega (arith, l .inv .4, l .inv .5); '
           'time-kept = λ h. same-onward _ _ _ (time-released _ _ (@release .ensures)) (same-onward _ _ _ (l .inv .11) (@instruct .ensures .1 .time-kept h)); '
-          'made = row-made %s (later (@args .from) %s) (later-released _ _ (@release .ensures) (@args .from) %s) (rw (chosen-later (@args .from) %s) (@Start .pre .6)) })'
+          'made = row-made %s (later (@args .from) %s) (later-released _ _ (@release .ensures) (@args .from) %s) (rw (chosen-later (@args .from) %s) (@Start .pre .5)) })'
           % (ROW, PLAIN, REGS, PLAIN))
 
 # a stretch of turns without the clock
@@ -52,14 +52,14 @@ A = {
         'Inv-loop': '(length memory ≡ length memory₀) × (length pages ≡ length pages₀) × (length ports ≡ length ports₀) × (lag₀ ≤ lag) × (lag < end) × (end ≤ most) × '
             '(key ≡ keyOf (t .sw)) × (group ≡ groupOf (t .sw)) × (t .hold ≡ false) × Calm (most - 1) t × (lag + 1 < end → 16 ≤ chosen (joined t regs)) × SameTime t₀ t × '
             '((k : ℕ) → going mil1750 (k + (lag - lag₀)) (later lag₀ (joined t₀ regs₀)) memory₀ pages₀ ports₀ ≡ going mil1750 k (later lag (joined t regs)) memory pages ports)',
-        'μ-loop': 'end - lag', 'default': 'omega arith', 'end-of-requires': '@Start .pre .4',
+        'μ-loop': 'end - lag', 'default': 'omega arith', 'end-of-requires': '@Start .pre .3',
         'loop-holds': '(refl, refl, refl, omega arith, @end-of .ensures .1, @end-of .ensures .2, @key-of .ensures .0 ∙ ap keyOf (sw-released _ _ (@release .ensures)), '
             '@group-of .ensures .0 ∙ ap groupOf (sw-released _ _ (@release .ensures)), hold-released _ _ (@release .ensures), '
-            'calm-same _ _ _ (time-released _ _ (@release .ensures)) (@Start .pre .5), '
-            'λ h. rw (chosen-released _ _ (@release .ensures) (@end-of .ensures .3 h) %s) (@Start .pre .6), same-here _, '
+            'calm-same _ _ _ (time-released _ _ (@release .ensures)) (@Start .pre .4), '
+            'λ h. rw (chosen-released _ _ (@release .ensures) (@end-of .ensures .3 h) %s) (@Start .pre .5), same-here _, '
             'λ k. ap (λ j. going mil1750 j (later (@args .from) (joined (@release .result) %s)) %s) (omega arith))' % (REGS, REGS, SPACES),
         'instruct-requires': '(omega arith, omega arith, @Start .pre .2, @loop .inv .6, @loop .inv .7, @group-of .ensures .1, '
-            'calm-fewer _ _ _ (omega (arith, @loop .inv .4, @loop .inv .5)) (@loop .inv .9), @Start .pre .3)',
+            'calm-fewer _ _ _ (omega (arith, @loop .inv .4, @loop .inv .5)) (@loop .inv .9))',
         'add-lag': 'omega (arith, @loop .inv .4)', 'loop-less': 'omega (arith, @loop .inv .4)',
         'loop-again': 'let l = @loop in let y = not-false (@instruct .result .settled) (@if1 .left) in let z = @instruct .ensures .1 in '
             'let s = z .choice-kept y in let w = z .time-kept (z .lags y) in '
@@ -68,8 +68,8 @@ A = {
             '(calm-fewer _ _ _ (omega (arith, @if2 .left, l .inv .5)) (calm-same _ _ _ w (l .inv .9))))' % (', '.join(lengths('instruct')), CHOSEN, ROW, CHOSEN),
         'returns': OBEYED % 'ended', 'returns-2': OBEYED % 'ended2', **kept('instruct')},
     'turn': by(use=[OMEGA, LATER, LAWS + '{entry-made}', STATE + '{joined}', MACHINE + '{machine}', ISA + '{mil1750}'],
-        obey_requires='(@Start .pre .0, @Start .pre .1, @Start .pre .2, @Start .pre .3, @Start .pre .4, @Start .pre .5, rw (← @choose .ensures %s refl refl refl refl) (@if1 .left))' % PLAIN,
-        returns='record { onward = omega arith; within = omega (arith, @Start .pre .4); time-kept = λ h. @interrupted .ensures .1; '
+        obey_requires='(@Start .pre .0, @Start .pre .1, @Start .pre .2, @Start .pre .3, @Start .pre .4, rw (← @choose .ensures %s refl refl refl refl) (@if1 .left))' % PLAIN,
+        returns='record { onward = omega arith; within = omega (arith, @Start .pre .3); time-kept = λ h. @interrupted .ensures .1; '
             'made = entry-made mil1750 (machine %s %s) _ (@args .lag) (@choose .ensures %s refl refl refl refl) (@if1 .taken) (joined (@interrupted .result) %s) _ _ _ '
             '(@interrupted .ensures .0 (@args .lag) %s (@args .ports .now)) }' % (LAGGING, SPACES, LAGGING, REGS, REGS),
         returns_2='@obey .ensures'),
@@ -78,10 +78,10 @@ A = {
                 *CALM, TIME + '{calm-same}', LAWS + '{stretch-start, stretch-cut, stretch-end, stretch-on}'],
         'Inv-loop': '(length memory ≡ length memory₀) × (length pages ≡ length pages₀) × (length ports ≡ length ports₀) × (lag < most) × (most ≤ n) × Calm (most - 1) t × '
             '(steps mil1750 n (machine (joined t₀ regs₀) memory₀ pages₀ ports₀) ≡ steps mil1750 (n - lag) (machine (later lag (joined t regs)) memory pages ports))',
-        'μ-loop': 'most - lag', 'default': 'omega arith', 'sub-quiet': 'omega (arith, @Start .pre .4)', 'add-most': 'omega (arith, @quiet .ensures .1)',
-        'loop-holds': '(refl, refl, refl, omega arith, omega (arith, @quiet .ensures .1, @Start .pre .4), calm-fewer _ _ _ (omega arith) (@quiet .ensures .2), '
+        'μ-loop': 'most - lag', 'default': 'omega arith', 'sub-quiet': 'omega (arith, @Start .pre .3)', 'add-most': 'omega (arith, @quiet .ensures .1)',
+        'loop-holds': '(refl, refl, refl, omega arith, omega (arith, @quiet .ensures .1, @Start .pre .3), calm-fewer _ _ _ (omega arith) (@quiet .ensures .2), '
             'stretch-start mil1750 (@args .n) 0 %s %s refl)' % (PLAIN, SPACES),
-        'turn-requires': '(omega arith, omega arith, @Start .pre .2, @Start .pre .3, @loop .inv .3, @loop .inv .5)',
+        'turn-requires': '(omega arith, omega arith, @Start .pre .2, @loop .inv .3, @loop .inv .5)',
         'sub-t25': 'omega (arith, @turn .ensures .within, @loop .inv .4)', 'sub-t26': 'omega (arith, @loop .inv .4)', 'sub-tick-by': 'omega arith',
         'returns': 'let l = @loop in (omega (arith, @turn .ensures .onward, @turn .ensures .within, l .inv .4), '
             'stretch-cut %s (not-true (@turn .result .lagging) (@if1 .taken)) _ (@tick .ensures))' % STRETCH,

@@ -20,8 +20,11 @@ def late(memory):
             '(@behind .ensures) (@tick-by .ensures (@args .regs .now)) (@govern .ensures %s)' % (memory, memory))
 
 
-CALLED = 'call-unseen _ _ %s %s _ _ (@call .ensures %s (@args .ports .now))' % (REGS, SPACES, REGS)
-LOADED = '(later lag %s) %s ports (@args .n) (@Start .pre .4) _ _ (@Start .pre .1) (@Start .pre .2) _ (@read-operand .ensures)' % (PLAIN, PAGED)
+def called(regs, ports):
+    return 'call-unseen _ _ %s %s %s _ _ (@call .ensures %s %s)' % (regs, PAGED, ports, regs, ports)
+
+
+LOADED = '(later lag %s) %s ports (@args .n) (@Start .pre .4) _ _ (@Start .pre .1) (@Start .pre .2) _ (@read-operand .ensures 3 (way-count (@args .n) 8 (@Start .pre .4) (omega arith) 3 refl))' % (PLAIN, PAGED)
 SHIFTED = '(withIc (joined (@args .core) regs) (@advance .result))'
 
 A = {
@@ -33,18 +36,17 @@ A = {
         use=['Rattle.entry.proofs.EntryLaws.{entered-by}', STATE + '{joined}'],
         returns='λ regs ports. rw (← @call-vector .ensures, ← @advance .ensures) (entered-by %s _ (@args .memory .now) _ (@args .pages .now) ports 5 _ _ %s (@arrive .ensures regs))'
             % (SHIFTED, linked('call-vector', SHIFTED))),
-    'command': by(use=[TIME + '{unsettled-lasting}', PRIVILEGED + '{command-late, behind-calm}', NIL],
-        tick_by_requires='behind-calm (@sees-time .result) _ _ (@args .core) (@behind .ensures) (@Start .pre .2)',
-        returns='(λ memory. rw (%s) (%s .0), %s(rw (%s) (%s .1)))' % (UNSETTLED, late('memory'), LASTING, UNSETTLED, late('[]'))),
-    'load': by(use=[LATER, ACT + '{failed}', SYSTEM + '{lst-carried, lst-denied, lst-became}', TIME + '{unsettled-lasting}', PRIVILEGED + '{status-time}', STATE + '{joined}'],
+    'command': by(use=[LATER, TIME + '{unsettled-lasting}', PRIVILEGED + '{command-late, behind-calm}', SYSTEM + '{xio-carried}', STATE + '{joined}', NIL],
+        tick_by_requires='behind-calm (@sees-time .result) _ _ (@args .core) (@behind .ensures) (@Start .pre .2)', govern_requires='(@Start .pre .0, @Start .pre .1)',
+        returns='(λ memory. rw (← xio-carried %s memory (@args .pages .now) (@args .ports .now) (@args .n) (@Start .pre .3), %s) (%s .0), %s(rw (%s) (%s .1)))'
+            % (LAGGING, UNSETTLED, late('memory'), LASTING, UNSETTLED, late('[]'))),
+    'executive': by(use=[LATER, OMEGA, SYSTEM + '{bex-carried}', TIME + '{unsettled-lasting, call-unseen}', STATE + '{joined}', NIL],
+        call_requires='(@Start .pre .0, omega arith)',
+        returns='(λ lag regs ports. rw (%s, ← bex-carried (later lag (joined (@args .core) regs)) %s ports (@args .n) (@Start .pre .1)) (%s .0 lag), %s(λ h. rw (@unsettled .ensures .0) (%s .1)))'
+            % (UNSETTLED, PAGED, called('regs', 'ports'), LASTING, called('[]', '[]'))),
+    'load': by(use=[LATER, OMEGA, 'Rattle.accumulate.proofs.WayLaws.{way-count}', ACT + '{failed}', SYSTEM + '{lst-carried, lst-denied, lst-became}', TIME + '{unsettled-lasting}', PRIVILEGED + '{status-time}', STATE + '{joined}'],
+        read_operand_requires='(@Start .pre .0, @Start .pre .3, @Start .pre .5, omega (arith, @Start .pre .4))',
         returns='(λ lag ports. rw (%s, ← lst-carried %s (@if1 .taken)) (lst-became lag (@args .core) (@load-status .result) %s %s ports _ _ _ (@load-status .ensures %s)), '
             '%s(λ h. rw (@unsettled .ensures .0) (status-time _ _ %s _ _ _ (@load-status .ensures %s))))' % (UNSETTLED, LOADED, REGS, PAGED, REGS, LASTING, REGS, REGS),
         returns_2='(λ lag ports. rw (@deny .ensures .0, ← lst-denied %s (@if1 .left), ← @advance .ensures) (%s), @deny .ensures .2)' % (LOADED, failed('ports', 'lag'))),
-    'carry_system': by(use=[LATER, OMEGA, SYSTEM + '{xio-carried, bex-carried}', TIME + '{unsettled-lasting, call-unseen}', STATE + '{joined}', 'Rattle.accumulate.proofs.WayLaws.{way-most}'],
-        command_requires='(@Start .pre .0, @Start .pre .1, @Start .pre .5)',
-        load_requires='(@Start .pre .0, @Start .pre .2, @Start .pre .3, @Start .pre .4, omega (arith, @Start .pre .6, @Start .pre .7, @if1 .left, @if2 .left, way-most (@args .n .form)))',
-        returns='(rw (← xio-carried %s %s (@args .n) (sym (@Start .pre .6) ∙ @if1 .taken)) (@command .ensures .0 (@args .memory .now)), @command .ensures .1)' % (LAGGING, SPACES),
-        returns_2='(rw (%s, ← bex-carried %s %s (@args .n) (sym (@Start .pre .6) ∙ @if2 .taken)) (%s .0 (@args .lag)), %s(λ h. rw (@unsettled .ensures .0) (%s .1)))'
-            % (UNSETTLED, LAGGING, SPACES, CALLED, LASTING, CALLED),
-        returns_3='(@load .ensures .0 (@args .lag) (@args .ports .now), @load .ensures .1)'),
 }

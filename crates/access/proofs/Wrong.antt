@@ -26,8 +26,6 @@ rows =
     -- addressing::derive: a branch measured from the next instruction; R0 as an index
     some (derivedFrom 10 regs 0x0100 0x74FE 0 ∷ derivedFrom 6 regs 0x0100 0x8010 0x0200 ∷ [])
     (0x00FE ∷ 0x0200 ∷ []) (0x00FF ∷ 0x0200 ∷ []) (0x00FE ∷ 0x1200 ∷ [])
-    -- addressing::in_memory: an indirect operand not in memory; an immediate operand in memory
-    ∷ some (flag (inMemory 7) ∷ flag (inMemory 8) ∷ []) (1 ∷ 0 ∷ []) (0 ∷ 0 ∷ []) (1 ∷ 1 ∷ [])
     -- addressing::operand_word: RB itself as the second word; the word read in place of a register
     ∷ one (operandWord regs (coded 0x113B 0xA72F 0) 1 7) 0x1000 0x100F 7
     -- addressing::operand_of: the contents of RB in place of the constant; the word read in place of the constant

@@ -1,7 +1,7 @@
 // The derived address of each addressing mode before indirection, and the derived operand (4.3, table V).
 ghost use mathlib.Core.Path.{_≡_};
 ghost use Prim.Native.Nat.{_<_};
-ghost use Rattle.isa.specs.Addressing.{derivedFrom, inMemory, isImmediate, isBased, operandWord, operand, doubleOperand, baseAccumulator, accumulator};
+ghost use Rattle.isa.specs.Addressing.{derivedFrom, isImmediate, isBased, operandWord, operand, doubleOperand, baseAccumulator, accumulator};
 use crate::fields::base_of;
 use crate::fields::displacement_of;
 use crate::fields::field_a;
@@ -9,6 +9,7 @@ use crate::fields::field_b;
 use crate::fields::get;
 use crate::fields::index_by;
 use crate::fields::signed_displacement;
+use decode::mode;
 use machine::Instruction;
 use std::num::wrapping_add_u16;
 
@@ -17,29 +18,16 @@ pub fn derive(mode: u16, regs: &[u16; 16], ic: u16, first: u16, second: u16) -> 
     ensures { λ r. ⌜ r ≡ derivedFrom mode (now (regs .entry)) ic first second ⌝ }
 {
     match mode {
-        2 => wrapping_add_u16(get(regs, base_of(first)), displacement_of(first)),
-        3 => index_by(regs, field_b(first), get(regs, base_of(first))),
-        4 => field_b(first) + 1,
-        5 => 65535 - field_b(first),
-        6 => index_by(regs, field_b(first), second),
-        7 => index_by(regs, field_b(first), second),
-        8 => index_by(regs, field_b(first), second),
-        9 => second,
-        10 => wrapping_add_u16(ic, signed_displacement(first)),
+        mode::B => wrapping_add_u16(get(regs, base_of(first)), displacement_of(first)),
+        mode::BX => index_by(regs, field_b(first), get(regs, base_of(first))),
+        mode::ISP => field_b(first) + 1,
+        mode::ISN => 65535 - field_b(first),
+        mode::D => index_by(regs, field_b(first), second),
+        mode::I => index_by(regs, field_b(first), second),
+        mode::IM => index_by(regs, field_b(first), second),
+        mode::EXT => second,
+        mode::ICR => wrapping_add_u16(ic, signed_displacement(first)),
         _ => 0,
-    }
-}
-
-// Whether the operand of a mode is in memory.
-pub fn in_memory(mode: u16) -> bool
-    ensures { λ r. ⌜ r ≡ inMemory mode ⌝ }
-{
-    match mode {
-        2 => true,
-        3 => true,
-        6 => true,
-        7 => true,
-        _ => false,
     }
 }
 
@@ -48,10 +36,10 @@ fn immediate(mode: u16) -> bool
     ensures { λ r. ⌜ r ≡ isImmediate mode ⌝ }
 {
     match mode {
-        4 => true,
-        5 => true,
-        8 => true,
-        9 => true,
+        mode::ISP => true,
+        mode::ISN => true,
+        mode::IM => true,
+        mode::EXT => true,
         _ => false,
     }
 }
@@ -61,8 +49,8 @@ fn based(mode: u16) -> bool
     ensures { λ r. ⌜ r ≡ isBased mode ⌝ }
 {
     match mode {
-        2 => true,
-        3 => true,
+        mode::B => true,
+        mode::BX => true,
         _ => false,
     }
 }
@@ -72,7 +60,7 @@ pub fn operand_word(regs: &[u16; 16], n: Instruction, k: u16, x: u16) -> u16
     requires { ⌜ k < 3 ⌝ }
     ensures { λ r. ⌜ r ≡ operandWord (now (regs .entry)) n k x ⌝ }
 {
-    if n.form / 256 % 16 == 1 {
+    if n.form / 256 % 16 == mode::R {
         return get(regs, field_b(n.first) + k);
     }
     x

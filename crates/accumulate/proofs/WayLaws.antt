@@ -1,8 +1,8 @@
 -- What the definitions say of the operations of each way: who may run them, which words they read and write, and what they do.
 -- Assumes nothing.
-use Prim.Native.Nat.{ℕ, _+_, _*_, _/_, _%_, _<_, _≤_}
+use Prim.Native.Nat.{ℕ, suc, _+_, _*_, _/_, _%_, _<_, _≤_}
 use mathlib.Core.Path.{_≡_, refl, sym, ap, _∙_}
-use mathlib.Core.Bool.{Bool, true, false, not, cond, _||_, false≢true}
+use mathlib.Core.Bool.{Bool, true, false, not, cond, _&&_, _||_, false≢true}
 use mathlib.Core.List.{List, [], _∷_}
 use native.Mathlib.Omega.{arith}
 use lib.Dec.{eqb, leb}
@@ -10,7 +10,8 @@ use lib.ListN.{getD}
 use borrow.Author.Tests.{eq-eqb, eqb-true, leb-true}
 use Rattle.choice.specs.Select.{select}
 use Rattle.choice.specs.Table.{among, Every}
-use Rattle.choice.proofs.TestLaws.{either, passes, among-every}
+use Rattle.choice.proofs.TestLaws.{both, either, passes, among-every}
+use Rattle.page.specs.declared.Span.{Span}
 use Rattle.decode.specs.Forms.{modeOf, operationOf, privilegedOperations}
 use Rattle.machine.specs.declared.Instruction.{Instruction}
 use Rattle.machine.specs.declared.Class.the-variants.{User}
@@ -100,6 +101,70 @@ module _ (n : Instruction) (w k j : ℕ) (e : wayOf (operationOf (n .form)) ≡ 
   way-writes regs =
       operand-written regs n (needs w) (sym (need-is n w e h)) p (λ z. absurd (omega (arith, z, r)))
       ∙ ap (λ (c : ℕ). spanFrom (n .address) (cond (inMemory (modeOf (n .form))) c 0)) t
+
+-- the number of words that it reads at its derived address, and of those that it writes there
+module _ (n : Instruction) (w : ℕ) (e : wayOf (operationOf (n .form)) ≡ w) (h : 0 < w) (k : ℕ) where
+  pub way-count : needs w % 4 ≡ k → needOf (operationOf (n .form)) % 4 ≡ k
+  way-count i = ap (λ (m : ℕ). m % 4) (need-is n w e h) ∙ i
+
+  pub way-store : needs w / 4 % 4 ≡ k → needOf (operationOf (n .form)) / 4 % 4 ≡ k
+  way-store i = ap (λ (m : ℕ). m / 4 % 4) (need-is n w e h) ∙ i
+
+-- whether the operand is in memory, by how many words there are
+module _ (b : Bool) (k c : ℕ) (e : cond b (suc k) 0 ≡ c) where
+  pub some-words : 0 < c → b ≡ true
+  some-words h = by b e
+    where
+      by : (b : Bool) → cond b (suc k) 0 ≡ c → b ≡ true
+      by true e = refl
+      by false e = absurd (omega (arith, e, h))
+
+  pub no-words : c ≤ 0 → b ≡ false
+  no-words h = by b e
+    where
+      by : (b : Bool) → cond b (suc k) 0 ≡ c → b ≡ false
+      by true e = absurd (omega (arith, e, h))
+      by false e = refl
+
+-- one that has a way is not on blocks, nor at a register
+abbrev unmarked : ℕ → Bool
+unmarked k = eqb (needOf k / 64 % 2) 0 && (eqb (needOf k / 16 % 2) 0 && eqb (needOf k / 32 % 2) 0)
+
+marks-told : (k : ℕ) → k < 256 → eqb (wayOf k) 0 || unmarked k ≡ true
+unfolding needOf exceptions wayOf wordsRead wordsMoved wordsOfFloat wordsOfInteger wordsWritten
+marks-told k h = passes (λ (j : ℕ). eqb (wayOf j) 0 || unmarked j) 256 refl k h
+
+module _ (n : Instruction) (h : 0 < wayOf (operationOf (n .form))) where
+  abbrev need : ℕ
+  need = needOf (operationOf (n .form))
+
+  clear : unmarked (operationOf (n .form)) ≡ true
+  clear =
+      either (eqb (wayOf (operationOf (n .form))) 0) (unmarked (operationOf (n .form)))
+      (λ u. let z : wayOf (operationOf (n .form)) ≡ 0 = eqb-true _ _ u in absurd (omega (arith, z, h))) (λ u. u) (marks-told (operationOf (n .form)) (omega arith))
+
+  marks : (need / 64 % 2 ≡ 0) × (need / 16 % 2 ≡ 0) × (need / 32 % 2 ≡ 0)
+  marks =
+      let t = both (eqb (need / 64 % 2) 0) (eqb (need / 16 % 2) 0 && eqb (need / 32 % 2) 0) clear in
+      let v = both (eqb (need / 16 % 2) 0) (eqb (need / 32 % 2) 0) (t .1) in
+      (eqb-true _ _ (t .0), eqb-true _ _ (v .0), eqb-true _ _ (v .1))
+
+  pub way-off-block : needOf (operationOf (n .form)) / 64 % 2 ≡ 0
+  way-off-block = marks .0
+
+  -- how many words it reads, and writes, by a count that is that of its span
+  pub way-counted : (c : ℕ)
+      → ((regs : List ℕ) → needOf (operationOf (n .form)) / 64 % 2 ≡ 0 → c ≡ readsOf regs n .count)
+      → (k : ℕ) → needOf (operationOf (n .form)) % 4 ≡ k → cond (inMemory (modeOf (n .form))) k 0 ≡ c
+  way-counted c f k i =
+      sym (f [] way-off-block ∙ ap (λ (s : Span). s .count) (operand-read [] n _ refl way-off-block (λ z. let m = marks .1 in omega (arith, z, m)))
+      ∙ ap (λ (j : ℕ). cond (inMemory (modeOf (n .form))) j 0) i)
+
+  pub way-stored : (c : ℕ) → ((regs : List ℕ) → needOf (operationOf (n .form)) / 64 % 2 ≡ 0 → c ≡ writesOf regs n .count)
+      → (k : ℕ) → needOf (operationOf (n .form)) / 4 % 4 ≡ k → cond (inMemory (modeOf (n .form))) k 0 ≡ c
+  way-stored c f k i =
+      sym (f [] way-off-block ∙ ap (λ (s : Span). s .count) (operand-written [] n _ refl way-off-block (λ z. let m = marks .2 in omega (arith, z, m)))
+      ∙ ap (λ (j : ℕ). cond (inMemory (modeOf (n .form))) j 0) i)
 
 -- ---- what it does
 

@@ -5,7 +5,7 @@ ghost use lib.ListN.{length};
 ghost use Rattle.fixed.specs.Fixed.{double};
 ghost use Rattle.decode.specs.Forms.{operationOf};
 ghost use Rattle.machine.specs.State.{keyOf, groupOf, joined};
-ghost use Rattle.needs.specs.Needs.{wayOf};
+ghost use Rattle.needs.specs.Needs.{wayOf, numberOf};
 ghost use Rattle.accumulate.specs.Ways.{plain, intoDouble, target};
 ghost use Rattle.accumulate.specs.Ended.{Ended};
 use crate::Ending;
@@ -70,11 +70,13 @@ pub fn into_double(
     memory: &[u16],
     pages: &[u16],
     n: Instruction,
+    number: u32,
 ) -> Ending
-    requires { ⌜ (length (now pages) ≡ 512) × (key ≡ keyOf (core .sw)) × (group ≡ groupOf (core .sw)) × (group < 16) × (wayOf (operationOf (n .form)) ≡ 2) ⌝ }
+    requires { ⌜ (length (now pages) ≡ 512) × (key ≡ keyOf (core .sw)) × (group ≡ groupOf (core .sw)) × (group < 16) × (wayOf (operationOf (n .form)) ≡ 2)
+        × (number ≡ numberOf (n .form)) ⌝ }
     ensures { λ r. ⌜ Ended (joined core (now (regs .entry))) (now (memory .entry)) (now (pages .entry)) n (r .clear) (r .fault) (joined (r .core) (now (regs .exit))) (now (memory .entry)) ⌝ }
 {
-    let g = read_operand(key, group, memory, pages, n, 2);
+    let g = read_operand(key, group, memory, pages, n, number);
     if g.clear {
         let k = target_of(n);
         let a = join(get(regs, k), get(regs, k + 1));

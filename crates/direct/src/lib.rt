@@ -1,11 +1,10 @@
 // The most frequent operations, each carried out at once by its way: one or two words into the accumulator, one or two stored, on by CS. What they
 // come to is what the definitions of all operations say; the way there is shorter. Callers have 512 page registers; key and group are those of SW.
 ghost use mathlib.Core.Path.{_≡_};
-ghost use Prim.Native.Nat.{_<_};
+ghost use Prim.Native.Nat.{_<_, _≤_};
 ghost use lib.ListN.{length};
-ghost use Rattle.decode.specs.Forms.{operationOf};
 ghost use Rattle.machine.specs.State.{keyOf, groupOf, joined};
-ghost use Rattle.needs.specs.Needs.{wayOf};
+ghost use Rattle.needs.specs.Needs.{numberOf};
 ghost use Rattle.accumulate.specs.Ended.{Ended};
 use crate::branch::branch;
 use crate::store::store_one;
@@ -19,7 +18,7 @@ use machine::Instruction;
 mod branch;
 mod store;
 
-// The operation of the instruction n by its way, which is from 1 to 5.
+// The operation of the instruction n by its way, which is from 1 to 5: the ranges of its form number are the rules.
 pub fn direct(
     core: Core,
     key: u16,
@@ -28,22 +27,21 @@ pub fn direct(
     memory: &mut [u16],
     pages: &[u16],
     n: Instruction,
-    way: u16,
+    number: u32,
 ) -> Ending
-    requires { ⌜ (length (now pages) ≡ 512) × (key ≡ keyOf (core .sw)) × (group ≡ groupOf (core .sw)) × (group < 16) × (way ≡ wayOf (operationOf (n .form))) × (0 < way) × (way < 6) ⌝ }
+    requires { ⌜ (length (now pages) ≡ 512) × (key ≡ keyOf (core .sw)) × (group ≡ groupOf (core .sw)) × (group < 16) × (number ≡ numberOf (n .form)) × (0x0080_0000 ≤ number) × (number < 0x0300_0000) ⌝ }
     ensures { λ r. ⌜ Ended (joined core (now (regs .entry))) (now (memory .entry)) (now (pages .entry)) n (r .clear) (r .fault) (joined (r .core) (now (regs .exit))) (now (memory .exit)) ⌝ }
 {
-    if way == 1 {
-        return into_single(core, key, group, regs, memory, pages, n);
+    match number {
+        // L A S OR AND, from 0x0080_0000 on
+        0..=0x00FF_FFFF => into_single(core, key, group, regs, memory, pages, n, number),
+        // DL DA DS
+        0x0100_0000..=0x017F_FFFF => into_double(core, key, group, regs, memory, pages, n, number),
+        // ST STC
+        0x0180_0000..=0x01FF_FFFF => store_one(core, key, group, regs, memory, pages, n, number),
+        // JC BR BEZ BLT BLE BGT BNZ BGE
+        0x0200_0000..=0x027F_FFFF => branch(core, n),
+        // DST
+        _ => store_two(core, key, group, regs, memory, pages, n, number),
     }
-    if way == 2 {
-        return into_double(core, key, group, regs, memory, pages, n);
-    }
-    if way == 3 {
-        return store_one(core, key, group, regs, memory, pages, n);
-    }
-    if way == 5 {
-        return store_two(core, key, group, regs, memory, pages, n);
-    }
-    branch(core, n)
 }

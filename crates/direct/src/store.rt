@@ -4,11 +4,10 @@ ghost use Prim.Native.Nat.{_<_};
 ghost use lib.ListN.{length, set};
 ghost use Rattle.decode.specs.Forms.{operationOf};
 ghost use Rattle.machine.specs.State.{keyOf, groupOf, joined};
-ghost use Rattle.needs.specs.Needs.{wayOf};
+ghost use Rattle.needs.specs.Needs.{wayOf, numberOf};
 ghost use Rattle.accumulate.specs.Ways.{wordStored};
 ghost use Rattle.accumulate.specs.Ended.{Ended};
 use access::addressing::accumulator_of;
-use access::addressing::in_memory;
 use access::fields::field_a;
 use access::fields::get;
 use accumulate::Ending;
@@ -18,6 +17,7 @@ use effect::cs_of;
 use effect::following;
 use machine::Core;
 use machine::Instruction;
+use needs::write_count;
 use page::Access;
 use page::Place;
 use page::lookup::look_up;
@@ -42,13 +42,15 @@ pub(crate) fn store_one(
     memory: &mut [u16],
     pages: &[u16],
     n: Instruction,
+    number: u32,
 ) -> Ending
-    requires { ⌜ (length (now pages) ≡ 512) × (key ≡ keyOf (core .sw)) × (group ≡ groupOf (core .sw)) × (group < 16) × (wayOf (operationOf (n .form)) ≡ 3) ⌝ }
+    requires { ⌜ (length (now pages) ≡ 512) × (key ≡ keyOf (core .sw)) × (group ≡ groupOf (core .sw)) × (group < 16) × (wayOf (operationOf (n .form)) ≡ 3)
+        × (number ≡ numberOf (n .form)) ⌝ }
     ensures { λ r. ⌜ Ended (joined core (now (regs .entry))) (now (memory .entry)) (now (pages .entry)) n (r .clear) (r .fault) (joined (r .core) (now (regs .entry))) (now (memory .exit)) ⌝ }
 {
     let next = following(core.ic, n.form);
     let cs = cs_of(core.sw);
-    if in_memory(n.form / 256 % 16) {
+    if 0 < write_count(n, number) {
         let x = word_stored(regs, n);
         let place = look_up(Access::Write, key, group, pages, memory.len(), n.address);
         match place {
@@ -82,13 +84,15 @@ pub(crate) fn store_two(
     memory: &mut [u16],
     pages: &[u16],
     n: Instruction,
+    number: u32,
 ) -> Ending
-    requires { ⌜ (length (now pages) ≡ 512) × (key ≡ keyOf (core .sw)) × (group ≡ groupOf (core .sw)) × (group < 16) × (wayOf (operationOf (n .form)) ≡ 5) ⌝ }
+    requires { ⌜ (length (now pages) ≡ 512) × (key ≡ keyOf (core .sw)) × (group ≡ groupOf (core .sw)) × (group < 16) × (wayOf (operationOf (n .form)) ≡ 5)
+        × (number ≡ numberOf (n .form)) ⌝ }
     ensures { λ r. ⌜ Ended (joined core (now (regs .entry))) (now (memory .entry)) (now (pages .entry)) n (r .clear) (r .fault) (joined (r .core) (now (regs .entry))) (now (memory .exit)) ⌝ }
 {
     let next = following(core.ic, n.form);
     let cs = cs_of(core.sw);
-    if !in_memory(n.form / 256 % 16) {
+    if write_count(n, number) == 0 {
         return done(core, next, cs, 0);
     }
     let x = get(regs, accumulator_of(n));

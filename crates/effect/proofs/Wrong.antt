@@ -13,7 +13,7 @@ use Rattle.decode.specs.Forms.{lengthOf}
 use Rattle.machine.specs.declared.Instruction.{Instruction}
 use Rattle.machine.specs.State.{csOf}
 use Rattle.machine.specs.Machine.{Effect}
-use Rattle.isa.specs.Effects.{Context, fixedOverflow, floatFaults, result, single, double, loaded, tested, stored, modified, replaced, jumped, nothing}
+use Rattle.isa.specs.Effects.{Context, fixedOverflow, floatFaults, result, single, double, loaded, tested, stored, modified, replaced, nothing}
 use Rattle.isa.proofs.OpenInstructions.{instructions}
 use Rattle.effect.specs.declared.Work.{Work}
 use Rattle.effect.specs.Work.{context, filled}
@@ -115,11 +115,6 @@ rows =
     (0x1001 ∷ 7 ∷ 0x1003 ∷ 0x0101 ∷ 2 ∷ 1 ∷ [])
     (7 ∷ 0x1002 ∷ 0x1003 ∷ 0x0101 ∷ 2 ∷ 1 ∷ [])
     (0x1001 ∷ 0x1002 ∷ 0x1003 ∷ 0x0101 ∷ 2 ∷ 1 ∷ [])
-    -- shapes::jumped: on to the second word in place of the derived address; on to the next instruction
-    ∷ some (put (jumped before long true))
-    (0 ∷ 0 ∷ 0 ∷ 0x0300 ∷ 2 ∷ 1 ∷ [])
-    (0 ∷ 0 ∷ 0 ∷ 0x02F0 ∷ 2 ∷ 1 ∷ [])
-    (0 ∷ 0 ∷ 0 ∷ 0x0102 ∷ 2 ∷ 1 ∷ [])
     -- shapes::nothing: IC as it was; CS 0
     ∷ some (put (nothing before long))
     (0 ∷ 0 ∷ 0 ∷ 0x0102 ∷ 2 ∷ 1 ∷ [])

@@ -3,7 +3,7 @@
 ghost use mathlib.Core.Path.{_≡_};
 ghost use mathlib.Core.List.{List, [], _∷_};
 ghost use Prim.Native.Nat.{ℕ};
-ghost use Rattle.isa.specs.Effects.{result, single, double, loaded, tested, stored, modified, replaced, jumped, nothing};
+ghost use Rattle.isa.specs.Effects.{result, single, double, loaded, tested, stored, modified, replaced, nothing};
 ghost use Rattle.effect.specs.Work.{context, worked};
 use crate::Work;
 use crate::cs_of;
@@ -157,28 +157,6 @@ pub fn replaced(ic: u16, sw: u16, pi: u16, n: Instruction, x: u16) -> Work
         return loaded(ic, sw, pi, n, n.first % 16, x);
     }
     stored(ic, sw, pi, n, x, 0, 0)
-}
-
-// On to the derived address where the condition holds, else to the next instruction.
-pub fn jumped(ic: u16, sw: u16, pi: u16, n: Instruction, taken: bool) -> Work
-    ensures { λ r. ⌜ ((regs : List ℕ) → worked regs r ≡ jumped (context regs ic sw pi) n taken) ⌝ }
-{
-    if taken {
-        return Work {
-            first: 0,
-            count: 0,
-            v0: 0,
-            v1: 0,
-            v2: 0,
-            ic: n.address,
-            cs: cs_of(sw),
-            pi: pi | 0,
-            w0: 0,
-            w1: 0,
-            w2: 0,
-        };
-    }
-    nothing(ic, sw, pi, n)
 }
 
 // Nothing: on to the next instruction.

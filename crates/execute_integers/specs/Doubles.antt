@@ -2,9 +2,9 @@
 use Prim.Native.Nat.{ℕ}
 use mathlib.Core.List.{[], _∷_}
 use Rattle.choice.specs.Select.{select}
-use Rattle.fixed.specs.Fixed.{Outcome, sum, difference}
+use Rattle.fixed.specs.Fixed.{Outcome}
 use Rattle.divide.specs.Divide.{product, quotient}
 
--- by its paragraph: sum, difference, product; any other number is the quotient's
+-- by its paragraph: the product; any other number is the quotient's
 unfoldable pub arithmetic : ℕ → ℕ → ℕ → Outcome
-arithmetic operation p q = select operation ((59, sum 32 p q) ∷ (67, difference 32 p q) ∷ (73, product 32 p q) ∷ []) (quotient 32 p q)
+arithmetic operation p q = select operation ((73, product 32 p q) ∷ []) (quotient 32 p q)

@@ -17,7 +17,6 @@ use access::fields::get;
 use bits::bytes::exchange_bytes;
 use bits::logic::and;
 use bits::logic::nand;
-use bits::logic::or;
 use bits::logic::xor;
 use divide::products::multiply_long;
 use divide::products::multiply16;
@@ -51,22 +50,19 @@ pub fn integer_operation(
     x: u16,
     y: u16,
 ) -> Work
+    requires { ⌜ (operationOf (n .form) ≡ 55 → ⊥) × (operationOf (n .form) ≡ 59 → ⊥) × (operationOf (n .form) ≡ 63 → ⊥) × (operationOf (n .form) ≡ 67 → ⊥) ⌝ }
     ensures { λ r. ⌜ worked (now (regs .entry)) r ≡ integerOperation (context (now (regs .entry)) ic sw pi) n x y (operationOf (n .form)) ⌝ }
 {
     let a = field_a(n.first);
     let k = accumulator_of(n);
     let o = operand_of(regs, n, x);
     match n.form % 256 {
-        55 => single_outcome(ic, pi, n, k, add16(get(regs, k), o)),
         56 => memory_outcome(ic, pi, n, add16(x, a + 1)),
         57 => single_outcome(ic, pi, n, a, absolute16(o)),
         58 => double_outcome(ic, pi, n, a, absolute32(double_operand(regs, n, x, y))),
-        59 => double_outcome(ic, pi, n, a, combine32(59, regs, a, n, x, y)),
-        63 => single_outcome(ic, pi, n, k, sub16(get(regs, k), o)),
         64 => memory_outcome(ic, pi, n, sub16(x, a + 1)),
         65 => single_outcome(ic, pi, n, a, negate16(o)),
         66 => double_outcome(ic, pi, n, a, negate32(double_operand(regs, n, x, y))),
-        67 => double_outcome(ic, pi, n, a, combine32(67, regs, a, n, x, y)),
         71 => single_outcome(ic, pi, n, a, multiply16(get(regs, a), o)),
         72 => double_outcome(ic, pi, n, k, multiply_long(get(regs, k), o)),
         73 => double_outcome(ic, pi, n, a, combine32(73, regs, a, n, x, y)),
@@ -87,14 +83,13 @@ pub fn logical_operation(
     x: u16,
     y: u16,
 ) -> Work
+    requires { ⌜ (operationOf (n .form) ≡ 81 → ⊥) × (operationOf (n .form) ≡ 82 → ⊥) ⌝ }
     ensures { λ r. ⌜ worked (now (regs .entry)) r ≡ logicalOperation (context (now (regs .entry)) ic sw pi) n x y (operationOf (n .form)) ⌝ }
 {
     let a = field_a(n.first);
     let k = accumulator_of(n);
     let o = operand_of(regs, n, x);
     match n.form % 256 {
-        81 => single(ic, pi, n, k, or(get(regs, k), o)),
-        82 => single(ic, pi, n, k, and(get(regs, k), o)),
         83 => single(ic, pi, n, a, xor(get(regs, a), o)),
         84 => single(ic, pi, n, a, nand(get(regs, a), o)),
         89 => single(ic, pi, n, a, exchange_bytes(get(regs, a))),

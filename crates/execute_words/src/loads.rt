@@ -3,15 +3,12 @@ ghost use mathlib.Core.Path.{_≡_};
 ghost use Rattle.decode.specs.Forms.{operationOf};
 ghost use Rattle.isa.specs.Words.{loadOperation};
 ghost use Rattle.effect.specs.Work.{context, worked};
-use access::addressing::accumulator_of;
-use access::addressing::double_operand;
 use access::addressing::operand_of;
 use access::fields::field_a;
 use access::fields::get;
 use bits::bytes::load_lower;
 use bits::bytes::load_upper;
 use effect::Work;
-use effect::shapes::double;
 use effect::shapes::nothing;
 use effect::shapes::result3;
 use effect::shapes::single;
@@ -30,13 +27,12 @@ pub fn load_operation(
     y: u16,
     z: u16,
 ) -> Work
+    requires { ⌜ (operationOf (n .form) ≡ 38 → ⊥) × (operationOf (n .form) ≡ 39 → ⊥) ⌝ }
     ensures { λ r. ⌜ worked (now (regs .entry)) r ≡ loadOperation (context (now (regs .entry)) ic sw pi) n x y z (operationOf (n .form)) ⌝ }
 {
     let a = field_a(n.first);
     let operation = n.form % 256;
     match operation {
-        38 => single(ic, pi, n, accumulator_of(n), operand_of(regs, n, x)),
-        39 => double(ic, pi, n, accumulator_of(n), double_operand(regs, n, x, y)),
         41 => result3(ic, pi, n, a, x, y, z, status(40, mantissa40(x, y, z)), 0),
         42 => single(
             ic,

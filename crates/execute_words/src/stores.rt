@@ -3,7 +3,6 @@ ghost use mathlib.Core.Path.{_≡_};
 ghost use Rattle.decode.specs.Forms.{operationOf};
 ghost use Rattle.isa.specs.Words.{storeOperation};
 ghost use Rattle.effect.specs.Work.{context, worked};
-use access::addressing::accumulator_of;
 use access::fields::field_a;
 use access::fields::get;
 use bits::bytes::store_lower;
@@ -16,15 +15,12 @@ use machine::Instruction;
 
 // ST STC DST SRM EFST STUB STLB; x is the word read.
 pub fn store_operation(regs: &[u16; 16], ic: u16, sw: u16, pi: u16, n: Instruction, x: u16) -> Work
+    requires { ⌜ (operationOf (n .form) ≡ 45 → ⊥) × (operationOf (n .form) ≡ 46 → ⊥) × (operationOf (n .form) ≡ 48 → ⊥) ⌝ }
     ensures { λ r. ⌜ worked (now (regs .entry)) r ≡ storeOperation (context (now (regs .entry)) ic sw pi) n x (operationOf (n .form)) ⌝ }
 {
     let a = field_a(n.first);
-    let acc = accumulator_of(n);
     let operation = n.form % 256;
     match operation {
-        45 => stored(ic, sw, pi, n, get(regs, acc), 0, 0),
-        46 => stored(ic, sw, pi, n, a, 0, 0),
-        48 => stored(ic, sw, pi, n, get(regs, acc), get(regs, acc + 1), 0),
         49 => stored(
             ic,
             sw,

@@ -5,22 +5,29 @@ use mathlib.Core.Bool.{Bool, true, false, cond, _&&_, false≢true}
 use mathlib.Core.List.{List, [], _∷_}
 use native.Mathlib.Omega.{arith}
 use lib.Dec.{eqb, leb}
-use lib.ListN.{getD}
+use lib.ListN.{length, getD}
 use borrow.Author.Tests.{leb-true, eqb-true}
 use Rattle.choice.specs.Select.{select}
 use Rattle.choice.proofs.TestLaws as tests
+use Rattle.page.specs.declared.Access.the-variants.{Fetch}
+use Rattle.page.specs.declared.Place.{Place}
+use Rattle.page.specs.declared.Place.the-variants.{At, Refused}
 use Rattle.page.specs.declared.Got.{Got}
 use Rattle.page.specs.declared.Got.the-variants.{Word, Missed}
 use Rattle.page.specs.declared.Span.{Span}
-use Rattle.page.specs.Spans.{wrapped}
+use Rattle.page.specs.Pages.{lookup}
+use Rattle.page.specs.Spans.{wrapped, gotAt}
 use Rattle.decode.specs.Forms.{lengthOf, modeOf, operationOf, privilegedOperations}
 use Rattle.machine.specs.declared.State.{State}
 use Rattle.machine.specs.declared.Core.{Core}
+use Rattle.decode.specs.Decode.{decodeOf}
 use Rattle.machine.specs.declared.Instruction.{Instruction}
+use Rattle.machine.specs.declared.Prepared.{Prepared}
+use Rattle.machine.specs.declared.Prepared.the-variants.{Ready, Denied}
 use Rattle.machine.specs.declared.Class.the-variants.{User}
 use Rattle.machine.specs.State.{keyOf, groupOf, withPi, withSw, withIc, withRegs, advanced, joined}
 use Rattle.machine.specs.Machine.{Became, Effect, spanFrom}
-use Rattle.machine.specs.Instructions.{affect, View, permitted, redirected, derived, extended, granted, decoded, fetched, prepared, both}
+use Rattle.machine.specs.Instructions.{affect, View, view, permitted, readyAt, redirected, derived, extended, granted, decoded, fetched, prepared, both}
 use Rattle.machine.specs.Step.{affected, stored, perform}
 use Rattle.isa.specs.Fields.{fieldA, register}
 use Rattle.isa.specs.Addressing.{inMemory}
@@ -29,8 +36,7 @@ use Rattle.isa.specs.Effects.{Context}
 use Rattle.isa.specs.Execute.{ordinary, executed}
 use Rattle.isa.specs.Mil1750.{classOf, contextOf, mil1750}
 use Rattle.needs.specs.Needs.{exceptions, wayOf, needOf}
-use Rattle.needs.proofs.NeedsLaws.{told, untold, reads-span, writes-span, way-told}
-use Rattle.accumulate.proofs.WayLaws.{way-user}
+use Rattle.needs.proofs.NeedsLaws.{told, untold, reads-span, writes-span}
 use Rattle.rearrange.specs.Operation.{isBlock, Worked}
 use Rattle.machine.proofs.StepLaws.{keeps-key, keeps-group}
 use Rattle.gather.specs.Gathers.{FirstThree}
@@ -95,6 +101,56 @@ module _ (n : ℕ) (s : State) (v : View) where
   pub prepared-later : prepared mil1750 (later n s) v ≡ prepared mil1750 s v
   unfolding prepared
   prepared-later = fetched-later (v .fetch (s .ic))
+
+-- ---- an instruction up to its accesses, from its first word on
+
+module _ (s : State) (m g : List ℕ) (key group : ℕ) (d : key ≡ keyOf (s .sw)) (e : group ≡ groupOf (s .sw)) (q : Place) (i : q ≡ lookup Fetch key group g (length m) (s .ic)) where
+  -- it was found at p
+  pub prepared-at : (p : ℕ) → q ≡ At p
+      → prepared mil1750 s (view s m g) ≡ decoded mil1750 s (view s m g) (decodeOf (getD m p 0)) (getD m p 0) (eqb (decodeOf (getD m p 0)) 0)
+  unfolding prepared fetched gotAt mil1750
+  prepared-at p h = rw (← d, ← e, ← i, h) refl
+
+  -- it was refused
+  pub prepared-refused : (b : ℕ) → q ≡ Refused b → prepared mil1750 s (view s m g) ≡ Denied b (wrapped (s .ic + 1))
+  unfolding prepared fetched gotAt mil1750 advanced
+  prepared-refused b h = rw (← d, ← e, ← i, h) refl
+
+-- the form of an instruction that is ready, and f of one that is not
+abbrev formed : ℕ → Prepared → ℕ
+formed f (Ready n) = n .form
+formed f (Denied b a) = f
+
+-- one that is ready has the form that it was prepared by
+module _ (s : State) (v : View) where
+  redirected-formed : (f w x : ℕ) (got : Got) → formed f (redirected s f w x got) ≡ f
+  unfolding redirected readyAt
+  redirected-formed f w x (Word a) = refl
+  redirected-formed f w x (Missed b) = refl
+
+  derived-formed : (f w x : ℕ) (b : Bool) → formed f (derived mil1750 s v f w x b) ≡ f
+  unfolding derived readyAt
+  derived-formed f w x false = refl
+  derived-formed f w x true = redirected-formed f w x (v .read (mil1750 .base (modeOf f) s w x))
+
+  extended-formed : (f w : ℕ) (got : Got) → formed f (extended mil1750 s v f w got) ≡ f
+  unfolding extended
+  extended-formed f w (Word x) = derived-formed f w x (eqb (modeOf f) 7)
+  extended-formed f w (Missed b) = refl
+
+  granted-formed : (f w : ℕ) (a b : Bool) → formed f (granted mil1750 s v f w a b) ≡ f
+  unfolding granted
+  granted-formed f w false b = refl
+  granted-formed f w true false = derived-formed f w 0 (eqb (modeOf f) 7)
+  granted-formed f w true true = extended-formed f w (v .fetch (advanced s 1))
+
+  decoded-formed : (f w : ℕ) (b : Bool) → formed f (decoded mil1750 s v f w b) ≡ f
+  unfolding decoded
+  decoded-formed f w true = refl
+  decoded-formed f w false = granted-formed f w (permitted (mil1750 .class (operationOf f)) (keyOf (s .sw))) (eqb (lengthOf f) 2)
+
+  pub ready-form : (f w : ℕ) (b : Bool) (n : Instruction) → decoded mil1750 s v f w b ≡ Ready n → n .form ≡ f
+  ready-form f w b n h = sym (ap (formed f) h) ∙ decoded-formed f w b
 
 -- ---- a user's operation
 
@@ -206,7 +262,3 @@ pub became-worked : (n : ℕ) (s : State) (m g o : List ℕ) (i : Instruction) (
     → Worked s m g i e t w → u ≡ later n t → Became (perform (later n s) m g o (affect e (writesOf (s .regs) i))) u w g o
 unfolding perform affected stored withPi withSw withIc withRegs
 became-worked n s m g o i e t u w b h = record { state-is = h ∙ ap (later n) (b .state-is); memory-is = b .memory-is; pages-is = refl; ports-is = refl }
-
--- one without a way is a user's
-pub no-way : (n : Instruction) (need : ℕ) → need ≡ needOf (operationOf (n .form)) → need < 128 → classOf (operationOf (n .form)) ≡ User
-no-way n need e h = let w = way-told (n .form) need e in way-user n 0 (omega (arith, w, h)) (omega arith)

@@ -4,18 +4,20 @@
 ghost use mathlib.Core.Path.{_≡_};
 ghost use mathlib.Core.Bool.{true, false};
 ghost use mathlib.Core.List.{List};
-ghost use Prim.Native.Nat.{ℕ, _<_};
+ghost use Prim.Native.Nat.{ℕ, _≤_, _<_};
+ghost use lib.Dec.{eqb};
 ghost use lib.ListN.{length};
+ghost use Rattle.page.specs.Pages.{lookup};
 ghost use Rattle.page.specs.Spans.{checked, wordsOf};
 ghost use Rattle.decode.specs.Forms.{operationOf};
-ghost use Rattle.decode.specs.Decode.{forms};
+ghost use Rattle.decode.specs.Decode.{decodeOf};
 ghost use Rattle.machine.specs.State.{keyOf, groupOf, joined};
 ghost use Rattle.machine.specs.Machine.{Became};
 ghost use Rattle.machine.specs.Instructions as spec;
 ghost use Rattle.machine.specs.Step.{perform};
 ghost use Rattle.isa.specs.Accesses.{readsOf, writesOf};
 ghost use Rattle.isa.specs.Mil1750.{mil1750};
-ghost use Rattle.needs.specs.Needs.{wayOf, needOf, allNeeds};
+ghost use Rattle.needs.specs.Needs.{wayOf, numberOf, numbers};
 ghost use Rattle.rearrange.specs.Operation.{isBlock};
 ghost use Rattle.gather.specs.Gathers.{FirstThree};
 ghost use Rattle.clock.specs.Later.{Calm, later};
@@ -31,7 +33,7 @@ use machine::Prepared;
 use moved::Moved;
 use moved::deny;
 use moved::weighed;
-use needs::need_with;
+use needs::decode_with;
 use needs::read_count;
 use needs::read_start;
 use needs::write_count;
@@ -39,9 +41,11 @@ use needs::write_start;
 use one_page::here::try_block;
 use ordinary::work;
 use page::Access;
+use page::Place;
 use page::Span;
 use page::Verdict;
 use page::lookup::check_span;
+use page::lookup::look_up;
 use prepare::prepare;
 use spans::reads;
 use spans::span_from;
@@ -49,7 +53,9 @@ use spans::writes;
 use status_word::advance;
 use status_word::group_of;
 use status_word::key_of;
-use system::carry_system;
+use system::command;
+use system::executive;
+use system::load;
 
 // The first refusal: all reads, then all writes.
 fn verify(sw: u16, pages: &[u16], size: usize, from: Span, to: Span) -> Verdict
@@ -124,11 +130,11 @@ fn proceed(
     pages: &[u16],
     n: Instruction,
     g: Gathered,
-    need: u16,
+    number: u32,
 ) -> Moved
     requires { ⌜ (length (now pages) ≡ 512) × (isBlock (operationOf (n .form)) ≡ false)
         × FirstThree (wordsOf (keyOf (core .sw)) (groupOf (core .sw)) (now pages) (length (now memory)) (readsOf (now regs) n) (now memory)) (g .x) (g .y) (g .z) × (key ≡ keyOf (core .sw)) × (group ≡ groupOf (core .sw)) × (group < 16)
-        × (need ≡ needOf (operationOf (n .form))) × (need < 128) ⌝ }
+        × (number ≡ numberOf (n .form)) × (wayOf (operationOf (n .form)) ≡ 0) ⌝ }
     ensures { λ r. ⌜ ((lag : ℕ) (ports : List ℕ) → Became (perform (later lag (joined core (now (regs .entry)))) (now (memory .entry)) (now (pages .entry)) ports
         (spec.accessed mil1750 (later lag (joined core (now (regs .entry)))) (now (pages .entry)) ports
         (spec.view (later lag (joined core (now (regs .entry)))) (now (memory .entry)) (now (pages .entry))) n
@@ -136,7 +142,7 @@ fn proceed(
         (after (r .lagging) lag (joined (r .core) (now (regs .exit)))) (now (memory .exit)) (now (pages .entry)) ports)
         × Lasting core r ⌝ }
 {
-    let to = span_from(write_start(regs, n, need), write_count(n, need));
+    let to = span_from(write_start(regs, n, number), write_count(n, number));
     let verdict = check_span(Access::Write, key, group, pages, memory.len(), to);
     match verdict {
         Verdict::Clear => {
@@ -156,24 +162,51 @@ fn carry_direct(
     memory: &mut [u16],
     pages: &[u16],
     n: Instruction,
-    way: u16,
+    number: u32,
 ) -> Moved
     requires { ⌜ (length (now pages) ≡ 512) × (key ≡ keyOf (core .sw)) × (group ≡ groupOf (core .sw)) × (group < 16)
-        × (way ≡ wayOf (operationOf (n .form))) × (0 < way) × (way < 6) ⌝ }
+        × (number ≡ numberOf (n .form)) × (0x0080_0000 ≤ number) × (number < 0x0300_0000) ⌝ }
     ensures { λ r. ⌜ ((lag : ℕ) (ports : List ℕ) → Became (perform (later lag (joined core (now (regs .entry)))) (now (memory .entry)) (now (pages .entry)) ports
         (spec.carried mil1750 (later lag (joined core (now (regs .entry)))) (now (pages .entry)) ports
         (spec.view (later lag (joined core (now (regs .entry)))) (now (memory .entry)) (now (pages .entry))) (Prepared.Ready n)))
         (after (r .lagging) lag (joined (r .core) (now (regs .exit)))) (now (memory .exit)) (now (pages .entry)) ports)
         × Lasting core r ⌝ }
 {
-    let end = direct(core, key, group, regs, memory, pages, n, way);
+    let end = direct(core, key, group, regs, memory, pages, n, number);
     if end.clear {
         return weighed(core.pi, end.core);
     }
     deny(core, end.fault, advance(core.ic, n.form / 4096))
 }
 
-// An instruction that is ready: its accesses are checked before it changes anything.
+// Any other user's operation, with any ports: its words are checked and read before it changes anything.
+fn carry_ordinary(
+    core: Core,
+    key: u16,
+    group: u16,
+    regs: &mut [u16; 16],
+    memory: &mut [u16],
+    pages: &[u16],
+    n: Instruction,
+    number: u32,
+) -> Moved
+    requires { ⌜ (length (now pages) ≡ 512) × (key ≡ keyOf (core .sw)) × (group ≡ groupOf (core .sw)) × (group < 16) × (number ≡ numberOf (n .form))
+        × (isBlock (operationOf (n .form)) ≡ false) × (wayOf (operationOf (n .form)) ≡ 0) ⌝ }
+    ensures { λ r. ⌜ ((lag : ℕ) (ports : List ℕ) → Became (perform (later lag (joined core (now (regs .entry)))) (now (memory .entry)) (now (pages .entry)) ports
+        (spec.carried mil1750 (later lag (joined core (now (regs .entry)))) (now (pages .entry)) ports
+        (spec.view (later lag (joined core (now (regs .entry)))) (now (memory .entry)) (now (pages .entry))) (Prepared.Ready n)))
+        (after (r .lagging) lag (joined (r .core) (now (regs .exit)))) (now (memory .exit)) (now (pages .entry)) ports)
+        × Lasting core r ⌝ }
+{
+    let from = read_start(regs, n, number);
+    let g = gather(key, group, memory, pages, from, read_count(n, number));
+    if g.clear {
+        return proceed(core, key, group, regs, memory, pages, n, g, number);
+    }
+    deny(core, g.fault, advance(core.ic, n.form / 4096))
+}
+
+// An instruction that is ready, by its form number, whose ranges are the rules: its accesses are checked before it changes anything.
 fn carry(
     core: Core,
     lag: u32,
@@ -184,32 +217,58 @@ fn carry(
     pages: &mut [u16],
     ports: &mut [u16],
     n: Instruction,
-    need: u16,
+    number: u32,
 ) -> Moved
-    requires { ⌜ (length (now pages) ≡ 512) × (length (now ports) ≡ 1024) × (key ≡ keyOf (core .sw)) × (group ≡ groupOf (core .sw)) × (group < 16) × Calm lag core × (need ≡ needOf (operationOf (n .form))) ⌝ }
+    requires { ⌜ (length (now pages) ≡ 512) × (length (now ports) ≡ 1024) × (key ≡ keyOf (core .sw)) × (group ≡ groupOf (core .sw)) × (group < 16) × Calm lag core × (number ≡ numberOf (n .form)) ⌝ }
     ensures { λ r. ⌜ (Became (perform (later lag (joined core (now (regs .entry)))) (now (memory .entry)) (now (pages .entry)) (now (ports .entry))
         (spec.carried mil1750 (later lag (joined core (now (regs .entry)))) (now (pages .entry)) (now (ports .entry)) (spec.view (later lag (joined core (now (regs .entry)))) (now (memory .entry)) (now (pages .entry))) (Prepared.Ready n)))
         (after (r .lagging) lag (joined (r .core) (now (regs .exit)))) (now (memory .exit)) (now (pages .exit)) (now (ports .exit))) × Lasting core r ⌝ }
 {
-    if 768 <= need {
-        let way = need / 128;
-        return carry_system(core, lag, key, group, regs, memory, pages, ports, n, way);
+    match number {
+        // the most frequent operations, from 0x0080_0000 on
+        0..=0x02FF_FFFF => carry_direct(core, key, group, regs, memory, pages, n, number),
+        // XIO
+        0x0300_0000..=0x037F_FFFF => command(core, lag, regs, pages, ports, n),
+        // BEX
+        0x0380_0000..=0x03FF_FFFF => executive(core, memory, pages, n),
+        // LST
+        0x0400_0000..=0x047F_FFFF => load(core, key, group, regs, memory, pages, n, number),
+        // LM POPM MOV STM PSHM XWR
+        0x0480_0000..=0x04FF_FFFF => carry_block(core, key, group, regs, memory, pages, n),
+        // any other
+        _ => carry_ordinary(core, key, group, regs, memory, pages, n, number),
     }
-    if 128 <= need {
-        return carry_direct(core, key, group, regs, memory, pages, n, need / 128);
-    }
-    if need / 64 % 2 == 1 {
-        return carry_block(core, key, group, regs, memory, pages, n);
-    }
-    let from = read_start(regs, n, need);
-    let g = gather(key, group, memory, pages, from, read_count(n, need));
-    if g.clear {
-        return proceed(core, key, group, regs, memory, pages, n, g, need);
-    }
-    deny(core, g.fault, advance(core.ic, n.form / 4096))
 }
 
-// The instruction at IC, from a core whose hold mark is clear. The tables are the decoder's and that of needs.
+// The instruction whose first word w was found at IC, at the physical address at.
+fn begin(
+    core: Core,
+    lag: u32,
+    key: u16,
+    group: u16,
+    regs: &mut [u16; 16],
+    memory: &mut [u16],
+    pages: &mut [u16],
+    ports: &mut [u16],
+    number: u32,
+    w: u16,
+    at: usize,
+) -> Moved
+    requires { ⌜ (length (now pages) ≡ 512) × (length (now ports) ≡ 1024) × (key ≡ keyOf (core .sw)) × (group ≡ groupOf (core .sw)) × (group < 16) × Calm lag core × (number ≡ numberOf (decodeOf w))
+        × (lookup Access.Fetch key group (now pages) (length (now memory)) (core .ic) ≡ Place.At at) ⌝ }
+    ensures { λ r. ⌜ (Became (perform (later lag (joined core (now (regs .entry)))) (now (memory .entry)) (now (pages .entry)) (now (ports .entry))
+        (spec.carried mil1750 (later lag (joined core (now (regs .entry)))) (now (pages .entry)) (now (ports .entry)) (spec.view (later lag (joined core (now (regs .entry)))) (now (memory .entry)) (now (pages .entry)))
+        (spec.decoded mil1750 (joined core (now (regs .entry))) (spec.view (joined core (now (regs .entry))) (now (memory .entry)) (now (pages .entry))) (decodeOf w) w (eqb (decodeOf w) 0))))
+        (after (r .lagging) lag (joined (r .core) (now (regs .exit)))) (now (memory .exit)) (now (pages .exit)) (now (ports .exit))) × Lasting core r ⌝ }
+{
+    let prepared = prepare(core, key, group, regs, memory, pages, number, w, at);
+    match prepared {
+        Prepared::Ready(n) => carry(core, lag, key, group, regs, memory, pages, ports, n, number),
+        Prepared::Denied(b, a) => deny(core, b, a),
+    }
+}
+
+// The instruction at IC, from a core whose hold mark is clear. The table is that of form numbers, made once a run.
 pub fn instruct(
     core: Core,
     lag: u32,
@@ -219,23 +278,34 @@ pub fn instruct(
     memory: &mut [u16],
     pages: &mut [u16],
     ports: &mut [u16],
-    table: &[u16; 256],
-    needs: &[u16; 256],
+    table: &[u32; 256],
 ) -> Moved
-    requires { ⌜ (length (now pages) ≡ 512) × (length (now ports) ≡ 1024) × (now table ≡ forms) × (key ≡ keyOf (core .sw)) × (group ≡ groupOf (core .sw)) × (group < 16) × Calm lag core
-        × (now needs ≡ allNeeds) ⌝ }
+    requires { ⌜ (length (now pages) ≡ 512) × (length (now ports) ≡ 1024) × (now table ≡ numbers) × (key ≡ keyOf (core .sw)) × (group ≡ groupOf (core .sw)) × (group < 16) × Calm lag core ⌝ }
     ensures { λ r. ⌜ (Became (perform (later lag (joined core (now (regs .entry)))) (now (memory .entry)) (now (pages .entry)) (now (ports .entry))
         (spec.instructed mil1750 (later lag (joined core (now (regs .entry)))) (now (pages .entry)) (now (ports .entry))
         (spec.view (later lag (joined core (now (regs .entry)))) (now (memory .entry)) (now (pages .entry)))))
         (after (r .lagging) lag (joined (r .core) (now (regs .exit)))) (now (memory .exit)) (now (pages .exit)) (now (ports .exit)))
         × Lasting core r ⌝ }
 {
-    let prepared = prepare(core, key, group, regs, memory, pages, table);
-    match prepared {
-        Prepared::Ready(n) => {
-            let need = need_with(needs, n.form);
-            carry(core, lag, key, group, regs, memory, pages, ports, n, need)
+    let first = look_up(Access::Fetch, key, group, pages, memory.len(), core.ic);
+    match first {
+        Place::At(at) => {
+            let w = memory[at];
+            let number = decode_with(table, w);
+            begin(
+                core,
+                lag,
+                key,
+                group,
+                regs,
+                memory,
+                pages,
+                ports,
+                number,
+                w,
+                at,
+            )
         }
-        Prepared::Denied(b, a) => deny(core, b, a),
+        Place::Refused(b) => deny(core, b, advance(core.ic, 1)),
     }
 }

@@ -5,10 +5,8 @@ use mathlib.Core.Bool.{Bool, true, false, not, cond, _&&_, _||_, false≢true}
 use mathlib.Core.List.{List}
 use native.Mathlib.Omega.{arith}
 use lib.Dec.{eqb}
-use lib.ListN.{getD}
 use borrow.Author.Tests.{eq-eqb, eqb-true, eqb-false}
 use Rattle.choice.proofs.TestLaws.{both, either, passes}
-use Rattle.choice.proofs.TableLaws.{listed}
 use Rattle.page.specs.declared.Span.{Span}
 use Rattle.page.specs.Spans.{wrapped}
 use Rattle.decode.specs.Forms.{modeOf, operationOf}
@@ -17,12 +15,7 @@ use Rattle.machine.specs.Machine.{spanFrom}
 use Rattle.isa.specs.Fields.{fieldA, register}
 use Rattle.isa.specs.Addressing.{inMemory}
 use Rattle.isa.specs.Accesses.{wordsMoved, wordsOfInteger, wordsOfFloat, wordsRead, wordsWritten, atOperand, readsOf, writesOf}
-use Rattle.needs.specs.Needs.{exceptions, wayOf, needOf, allNeeds}
-
--- the entry of a list that is the table
-pub need-listed : (table : List ℕ) (form : ℕ) → table ≡ allNeeds → getD table (operationOf form) 0 ≡ needOf (operationOf form)
-unfolding allNeeds
-need-listed table form e = listed needOf 256 (operationOf form) table e (omega arith)
+use Rattle.needs.specs.Needs.{exceptions, wayOf, needOf}
 
 -- the counts, and the two words at a register, computed at every operation
 abbrev parted : ℕ → Bool
@@ -50,6 +43,20 @@ told false m e h = absurd (omega arith)
 pub untold : (b : Bool) (m : ℕ) → m ≡ cond b 1 0 → (m ≡ 1 → ⊥) → b ≡ false
 untold true m e h = absurd (h e)
 untold false m e h = refl
+
+-- URS and SJS by their marks
+module _ (form : ℕ) where
+  pub reading-told : eqb (operationOf form) 37 ≡ true → needOf (operationOf form) / 16 % 2 ≡ 1
+  reading-told t = parts (operationOf form) (omega arith) .2 ∙ ap (λ (b : Bool). cond b 1 0) t
+
+  pub reading-untold : eqb (operationOf form) 37 ≡ false → needOf (operationOf form) / 16 % 2 ≡ 1 → ⊥
+  reading-untold t i = let z = parts (operationOf form) (omega arith) .2 ∙ ap (λ (b : Bool). cond b 1 0) t in omega (arith, z, i)
+
+  pub writing-told : eqb (operationOf form) 36 ≡ true → needOf (operationOf form) / 32 % 2 ≡ 1
+  writing-told t = parts (operationOf form) (omega arith) .3 ∙ ap (λ (b : Bool). cond b 1 0) t
+
+  pub writing-untold : eqb (operationOf form) 36 ≡ false → needOf (operationOf form) / 32 % 2 ≡ 1 → ⊥
+  writing-untold t i = let z = parts (operationOf form) (omega arith) .3 ∙ ap (λ (b : Bool). cond b 1 0) t in omega (arith, z, i)
 
 -- an operation without the weight of blocks is not j, which has it
 apart : (k j : ℕ) → needOf k / 64 % 2 ≡ 0 → needOf j / 64 % 2 ≡ 1 → eqb k j ≡ false

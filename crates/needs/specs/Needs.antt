@@ -1,10 +1,15 @@
 -- What an operation needs, as one number: the words that it reads and writes, whether it is one of the few that are carried out in another way,
--- and the way of one that is carried out directly or is no user's.
+-- and the way of one that is carried out directly or is no user's. The form number of an instruction: its form, and above it what it needs.
 -- Assumes nothing.
-use Prim.Native.Nat.{ℕ, _+_, _*_}
+use Prim.Native.Nat.{ℕ, _+_, _*_, _/_, _%_}
+use mathlib.Core.Bool.{cond}
 use mathlib.Core.List.{List, [], _∷_}
+use lib.Dec.{eqb}
 use Rattle.choice.specs.Select.{select}
 use Rattle.choice.specs.Table.{tableOf}
+use Rattle.decode.specs.Forms.{modeOf, operationOf}
+use Rattle.decode.specs.Decode.{formOf}
+use Rattle.isa.specs.Addressing.{inMemory}
 use Rattle.isa.specs.Accesses.{wordsRead, wordsWritten}
 
 -- 16: URS, one word read at a register. 32: SJS, one word written below a register. 64: LM POPM MOV STM PSHM XWR, on blocks.
@@ -35,6 +40,18 @@ wayOf operation =
 unfoldable pub needOf : ℕ → ℕ
 needOf operation = wordsRead operation + 4 * wordsWritten operation + select operation exceptions 0 + 128 * wayOf operation
 
--- the table: the needs of the operations 0 to 255
-unfoldable pub allNeeds : List ℕ
-allNeeds = tableOf needOf 0 256
+-- the words that an instruction of a form reads, plus 4 times those that it writes: at its derived address only where the mode has its operand in memory
+unfoldable pub countsOf : ℕ → ℕ
+countsOf form = select (operationOf form) ((37, 1) ∷ (36, 4) ∷ []) (cond (inMemory (modeOf form)) (needOf (operationOf form) % 16) 0)
+
+-- the rule by which the code carries an operation out: its way from 1 to 8, 9 for those on blocks, 10 for any other
+unfoldable pub ruleOf : ℕ → ℕ
+ruleOf operation = cond (eqb (wayOf operation) 0) (cond (eqb (needOf operation / 64 % 2) 1) 9 10) (wayOf operation)
+
+-- the form number: the form; above it these words, 16 more for URS and 32 more for SJS; and above them the rule, so that the ranges of the number are the rules
+unfoldable pub numberOf : ℕ → ℕ
+numberOf form = 0x800000 * ruleOf (operationOf form) + 65536 * (needOf (operationOf form) / 16 % 4 * 16 + countsOf form) + form
+
+-- the table: the form numbers of the 256 opcodes
+unfoldable pub numbers : List ℕ
+numbers = tableOf (λ op. numberOf (formOf op)) 0 256

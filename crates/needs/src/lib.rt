@@ -1,81 +1,105 @@
-// What each operation needs, as one number, and the words that one not on blocks reads and writes, by that number.
+// The form number of an instruction by its first word, from one table, and what it tells: the words that an instruction not on blocks reads and writes.
 ghost use mathlib.Core.Path.{_≡_};
 ghost use mathlib.Core.List.{List};
-ghost use Prim.Native.Nat.{ℕ, _≤_, _/_, _%_};
+ghost use Prim.Native.Nat.{ℕ, _≤_, _<_, _/_, _%_};
 ghost use Rattle.decode.specs.Forms.{operationOf};
+ghost use Rattle.decode.specs.Decode.{lookup, decodeOf};
 ghost use Rattle.isa.specs.Accesses.{readsOf, writesOf};
-ghost use Rattle.needs.specs.Needs.{needOf, allNeeds};
+ghost use Rattle.needs.specs.Needs.{needOf, numberOf, numbers};
 
 mod numbers;
 
-use crate::numbers::NEEDS;
-use access::addressing::in_memory;
 use access::fields::field_a;
 use access::fields::get;
 use access::fields::less;
 use machine::Instruction;
 
-// The table of needs. A run makes it once and lends it to each `need_with`.
-pub fn table() -> [u16; 256]
-    ensures { λ r. ⌜ r ≡ allNeeds ⌝ }
+// The table of form numbers, one for each opcode. A run makes it once and lends it to each `decode_with`.
+pub fn table() -> [u32; 256]
+    ensures { λ r. ⌜ r ≡ numbers ⌝ }
 {
-    NEEDS
+    numbers::TABLE
 }
 
-// The need of a form's operation. Every caller lends what `table` gave it.
-pub fn need_with(table: &[u16; 256], form: u16) -> u16
-    requires { ⌜ now table ≡ allNeeds ⌝ }
-    ensures { λ r. ⌜ r ≡ needOf (operationOf form) ⌝ }
+// The form number under opcodes 40 to 43, by bits 8 to 11: four bits, so that every caller has a number below 16.
+fn indexed(upper: usize) -> u32
+    requires { ⌜ upper < 16 ⌝ }
+    ensures { λ r. ⌜ r ≡ numberOf (lookup 0x40 upper 0) ⌝ }
 {
-    table[(form % 256) as usize]
+    numbers::INDEXED[upper]
+}
+
+// The form number under opcode 4A, by bits 12 to 15, likewise below 16.
+fn immediate(lower: usize) -> u32
+    requires { ⌜ lower < 16 ⌝ }
+    ensures { λ r. ⌜ r ≡ numberOf (lookup 0x4A 0 lower) ⌝ }
+{
+    numbers::IMMEDIATE[lower]
+}
+
+// The form number under opcode FF, by the whole first word.
+fn special(first: u16) -> u32
+    ensures { λ r. ⌜ r ≡ numberOf (lookup 0xFF (first / 16 % 16) (first % 16)) ⌝ }
+{
+    match first % 256 {
+        0x00 => numbers::NOP,
+        0xFF => numbers::BPT,
+        _ => numbers::ILLEGAL,
+    }
+}
+
+// The form number of an instruction by its first word, with the form 0 where it is illegal. Every caller lends what `table` gave it.
+pub fn decode_with(table: &[u32; 256], first: u16) -> u32
+    requires { ⌜ now table ≡ numbers ⌝ }
+    ensures { λ r. ⌜ r ≡ numberOf (decodeOf first) ⌝ }
+{
+    let number = table[(first / 256) as usize];
+    // a form with a paragraph is whole
+    if number % 256 != 0 {
+        return number;
+    }
+    match number {
+        numbers::UNDER_40 => indexed((first / 16 % 16) as usize),
+        numbers::UNDER_4A => immediate((first % 16) as usize),
+        numbers::UNDER_FF => special(first),
+        _ => number,
+    }
 }
 
 // Where the words read start, unless the operation is on blocks.
-pub fn read_start(regs: &[u16; 16], n: Instruction, need: u16) -> u16
-    requires { ⌜ need ≡ needOf (operationOf (n .form)) ⌝ }
-    ensures { λ r. ⌜ (need / 64 % 2 ≡ 0 → r ≡ readsOf (now (regs .entry)) n .start) ⌝ }
+pub fn read_start(regs: &[u16; 16], n: Instruction, number: u32) -> u16
+    requires { ⌜ number ≡ numberOf (n .form) ⌝ }
+    ensures { λ r. ⌜ (needOf (operationOf (n .form)) / 64 % 2 ≡ 0 → r ≡ readsOf (now (regs .entry)) n .start) ⌝ }
 {
-    if need / 16 % 2 == 1 {
+    if number / 0x0010_0000 % 2 == 1 {
         return get(regs, field_a(n.first));
     }
     n.address
 }
 
 // How many they are.
-pub fn read_count(n: Instruction, need: u16) -> u16
-    requires { ⌜ need ≡ needOf (operationOf (n .form)) ⌝ }
-    ensures { λ r. ⌜ ((regs : List ℕ) → need / 64 % 2 ≡ 0 → r ≡ readsOf regs n .count) × (r ≤ 3) ⌝ }
+pub fn read_count(n: Instruction, number: u32) -> u16
+    requires { ⌜ number ≡ numberOf (n .form) ⌝ }
+    ensures { λ r. ⌜ ((regs : List ℕ) → needOf (operationOf (n .form)) / 64 % 2 ≡ 0 → r ≡ readsOf regs n .count) × (r ≤ 3) ⌝ }
 {
-    if need / 16 % 2 == 0 {
-        if in_memory(n.form / 256 % 16) {
-            return need % 4;
-        }
-        return 0;
-    }
-    1
+    (number / 0x0001_0000 % 4) as u16
 }
 
 // Where the words written start, unless the operation is on blocks.
-pub fn write_start(regs: &[u16; 16], n: Instruction, need: u16) -> u16
-    requires { ⌜ need ≡ needOf (operationOf (n .form)) ⌝ }
-    ensures { λ r. ⌜ (need / 64 % 2 ≡ 0 → r ≡ writesOf (now (regs .entry)) n .start) ⌝ }
+pub fn write_start(regs: &[u16; 16], n: Instruction, number: u32) -> u16
+    requires { ⌜ number ≡ numberOf (n .form) ⌝ }
+    ensures { λ r. ⌜ (needOf (operationOf (n .form)) / 64 % 2 ≡ 0 → r ≡ writesOf (now (regs .entry)) n .start) ⌝ }
 {
-    if need / 32 % 2 == 1 {
+    if number / 0x0020_0000 % 2 == 1 {
         return less(get(regs, field_a(n.first)), 1);
     }
     n.address
 }
 
 // How many they are.
-pub fn write_count(n: Instruction, need: u16) -> u16
-    requires { ⌜ need ≡ needOf (operationOf (n .form)) ⌝ }
-    ensures { λ r. ⌜ ((regs : List ℕ) → need / 64 % 2 ≡ 0 → r ≡ writesOf regs n .count) × (r ≤ 3) ⌝ }
+pub fn write_count(n: Instruction, number: u32) -> u16
+    requires { ⌜ number ≡ numberOf (n .form) ⌝ }
+    ensures { λ r. ⌜ ((regs : List ℕ) → needOf (operationOf (n .form)) / 64 % 2 ≡ 0 → r ≡ writesOf regs n .count) × (r ≤ 3) ⌝ }
 {
-    if need / 32 % 2 == 0 {
-        if in_memory(n.form / 256 % 16) {
-            return need / 4 % 4;
-        }
-        return 0;
-    }
-    1
+    (number / 0x0004_0000 % 4) as u16
 }

@@ -1,10 +1,15 @@
--- The rule of an operation by its range. Assumes nothing.
-use Prim.Native.Nat.{ℕ, _≤_, _<_}
-use mathlib.Core.Path.{_≡_, sym}
-use mathlib.Core.Bool.{true}
+-- The rule of an operation by its range, and which operations have no way. Assumes nothing.
+use Prim.Native.Nat.{ℕ, suc, _≤_, _<_}
+use mathlib.Core.Path.{_≡_, refl, sym, ap, _∙_}
+use mathlib.Core.Bool.{Bool, true, false, not, _&&_, _||_, false≢true}
 use mathlib.Core.List.{List, [], _∷_}
+use native.Mathlib.Omega.{arith}
+use lib.Dec.{eqb, leb, ltb}
+use borrow.Author.Tests.{eqb-true, eq-eqb, le-leb, lt-ltb}
 use Rattle.choice.specs.Select.{ruleAt, spans, below}
+use Rattle.choice.specs.Table.{among}
 use Rattle.choice.proofs.SelectLaws.{ranged, beyond}
+use Rattle.choice.proofs.TestLaws.{either, passes}
 use Rattle.machine.specs.declared.Instruction.{Instruction}
 use Rattle.machine.specs.Machine.{Effect}
 use Rattle.isa.specs.Effects.{Context, nothing}
@@ -12,6 +17,7 @@ use Rattle.isa.specs.Words.{bitOperation, shiftOperation, jumpOperation, loadOp
 use Rattle.isa.specs.Integers.{integerOperation, logicalOperation}
 use Rattle.isa.specs.Floats.{floatOperation}
 use Rattle.isa.specs.Execute.{ordinary}
+use Rattle.needs.specs.Needs.{wayOf}
 
 module _ (v : Context) (n : Instruction) (x y z operation : ℕ) where
   abbrev pub rules : List (ℕ × Effect)
@@ -45,3 +51,42 @@ module _ (v : Context) (n : Instruction) (x y z operation : ℕ) where
   pub past-all : (lo : ℕ) → below lo rules ≡ true → lo ≤ operation → nothing v n ≡ ordinary v n x y z operation
   unfolding ordinary
   past-all lo t p = sym (beyond operation lo rules (nothing v n) t p)
+
+-- ---- an operation without a way
+
+-- of the jumps these have none: JS, SOJ, SJS and URS
+abbrev jumping : ℕ → Bool
+jumping k = leb 24 k && (ltb k 38 && eqb (wayOf k) 0)
+
+jumps-told : (k : ℕ) → k < 256 → not (jumping k) || among k (25 ∷ 26 ∷ 36 ∷ 37 ∷ []) ≡ true
+unfolding wayOf
+jumps-told k h = passes (λ (j : ℕ). not (jumping j) || among j (25 ∷ 26 ∷ 36 ∷ 37 ∷ [])) 256 refl k h
+
+module _ (operation : ℕ) (e : wayOf operation ≡ 0) where
+  -- it is none that has one
+  apart : (k w : ℕ) → wayOf k ≡ suc w → operation ≡ k → ⊥
+  apart k w h i = let z = ap wayOf i in omega (arith, e, z, h)
+
+  pub jump-left : operation < 256 → 24 ≤ operation → operation < 38 → (operation ≡ 25 → ⊥) → (operation ≡ 26 → ⊥) → (operation ≡ 36 → ⊥) → operation ≡ 37
+  jump-left h p q a b c =
+      let j : jumping operation ≡ true = rw (le-leb 24 operation p, lt-ltb operation 38 q, eq-eqb (wayOf operation) 0 e) refl in
+      either (not (jumping operation)) _ (λ u. absurd (false≢true (sym (ap not j) ∙ u)))
+      (either (eqb operation 25) _ (λ u. absurd (a (eqb-true _ _ u))) (either (eqb operation 26) _ (λ u. absurd (b (eqb-true _ _ u)))
+      (either (eqb operation 36) _ (λ u. absurd (c (eqb-true _ _ u))) (either (eqb operation 37) false (λ u. eqb-true _ _ u) (λ u. absurd (false≢true u))))))
+      (jumps-told operation h)
+
+  pub loads-left : (operation ≡ 38 → ⊥) × (operation ≡ 39 → ⊥)
+  unfolding wayOf
+  loads-left = (apart 38 0 refl, apart 39 1 refl)
+
+  pub stores-left : (operation ≡ 45 → ⊥) × (operation ≡ 46 → ⊥) × (operation ≡ 48 → ⊥)
+  unfolding wayOf
+  stores-left = (apart 45 2 refl, apart 46 2 refl, apart 48 4 refl)
+
+  pub integers-left : (operation ≡ 55 → ⊥) × (operation ≡ 59 → ⊥) × (operation ≡ 63 → ⊥) × (operation ≡ 67 → ⊥)
+  unfolding wayOf
+  integers-left = (apart 55 0 refl, apart 59 1 refl, apart 63 0 refl, apart 67 1 refl)
+
+  pub logic-left : (operation ≡ 81 → ⊥) × (operation ≡ 82 → ⊥)
+  unfolding wayOf
+  logic-left = (apart 81 0 refl, apart 82 0 refl)

@@ -4,16 +4,16 @@
 ghost use mathlib.Core.Path.{_≡_};
 ghost use mathlib.Core.Bool.{true, cond};
 ghost use mathlib.Core.List.{List};
-ghost use Prim.Native.Nat.{ℕ, _+_, _<_};
+ghost use Prim.Native.Nat.{ℕ, _+_, _%_, _<_};
 ghost use lib.Dec.{eqb};
 ghost use lib.ListN.{length};
 ghost use Rattle.page.specs.Pages.{lookup};
 ghost use Rattle.page.specs.Spans.{wrapped, gotAt};
 ghost use Rattle.decode.specs.Forms.{lengthOf, modeOf};
-ghost use Rattle.decode.specs.Decode.{forms};
 ghost use Rattle.machine.specs.State.{keyOf, groupOf, joined};
-ghost use Rattle.machine.specs.Instructions.{view, permitted, readyAt, redirected, derived, granted, decoded, prepared};
+ghost use Rattle.machine.specs.Instructions.{view, permitted, readyAt, redirected, derived, granted, decoded};
 ghost use Rattle.isa.specs.Mil1750.{classOf, mil1750};
+use decode::mode;
 use machine::Class;
 use machine::Core;
 use machine::Instruction;
@@ -90,9 +90,9 @@ fn derive(
     ensures { λ r. ⌜ r ≡ derived mil1750 (joined core (now (regs .entry)))
         (view (joined core (now (regs .entry))) (now (memory .entry)) (now (pages .entry))) form w x (eqb (modeOf form) 7) ⌝ }
 {
-    let mode = form / 256 % 16;
-    let a = access::addressing::derive(mode, regs, core.ic, w, x);
-    if mode == 7 {
+    let number = form / 256 % 16;
+    let a = access::addressing::derive(number, regs, core.ic, w, x);
+    if number == mode::I {
         let got = read_word(Access::Read, key, group, memory, pages, a);
         return redirect(core, form, w, x, got);
     }
@@ -152,23 +152,25 @@ fn extend(
     }
 }
 
-// A first word of this form, from its legality on.
-fn admit(
+// The instruction whose first word w was found at IC, at the physical address at, ready for its accesses, or its refusal: from its legality on. The number is
+// that of its form.
+pub fn prepare(
     core: Core,
     key: u16,
     group: u16,
     regs: &[u16; 16],
     memory: &[u16],
     pages: &[u16],
-    form: u16,
+    number: u32,
     w: u16,
     at: usize,
 ) -> Prepared
     requires { ⌜ (length (now pages) ≡ 512) × (key ≡ keyOf (core .sw)) × (group ≡ groupOf (core .sw)) × (group < 16)
         × (lookup Access.Fetch key group (now pages) (length (now memory)) (core .ic) ≡ Place.At at) ⌝ }
     ensures { λ r. ⌜ r ≡ decoded mil1750 (joined core (now (regs .entry)))
-        (view (joined core (now (regs .entry))) (now (memory .entry)) (now (pages .entry))) form w (eqb form 0) ⌝ }
+        (view (joined core (now (regs .entry))) (now (memory .entry)) (now (pages .entry))) (number % 65536) w (eqb (number % 65536) 0) ⌝ }
 {
+    let form = (number % 65536) as u16;
     if form == 0 {
         return Prepared::Denied(0x0040, advance(core.ic, 1));
     }
@@ -177,29 +179,4 @@ fn admit(
         return extend(core, key, group, regs, memory, pages, form, w, at);
     }
     Prepared::Denied(0x0020, advance(core.ic, 1))
-}
-
-// The instruction at IC, ready for its accesses, or its refusal. The table is the decoder's, made once a run.
-pub fn prepare(
-    core: Core,
-    key: u16,
-    group: u16,
-    regs: &[u16; 16],
-    memory: &[u16],
-    pages: &[u16],
-    table: &[u16; 256],
-) -> Prepared
-    requires { ⌜ (length (now pages) ≡ 512) × (key ≡ keyOf (core .sw)) × (group ≡ groupOf (core .sw)) × (group < 16) × (now table ≡ forms) ⌝ }
-    ensures { λ r. ⌜ r ≡ prepared mil1750 (joined core (now (regs .entry)))
-        (view (joined core (now (regs .entry))) (now (memory .entry)) (now (pages .entry))) ⌝ }
-{
-    let first = look_up(Access::Fetch, key, group, pages, memory.len(), core.ic);
-    match first {
-        Place::At(at) => {
-            let w = memory[at];
-            let form = decode::decode_with(table, w);
-            admit(core, key, group, regs, memory, pages, form, w, at)
-        }
-        Place::Refused(b) => Prepared::Denied(b, advance(core.ic, 1)),
-    }
 }

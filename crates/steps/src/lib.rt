@@ -4,7 +4,6 @@ ghost use mathlib.Core.Bool.{false, cond};
 ghost use mathlib.Core.List.{List};
 ghost use Prim.Native.Nat.{ℕ, _+_, _-_, _<_, _≤_};
 ghost use lib.ListN.{length};
-ghost use Rattle.decode.specs.Decode.{forms};
 ghost use Rattle.machine.specs.State.{joined};
 ghost use Rattle.machine.specs.Machine.{Became, machine};
 ghost use Rattle.machine.specs.Entries.{chosen};
@@ -12,7 +11,7 @@ ghost use Rattle.machine.specs.Instructions as spec;
 ghost use Rattle.machine.specs.Step.{released, perform};
 ghost use Rattle.machine.specs.Runs.{steps};
 ghost use Rattle.isa.specs.Mil1750.{mil1750};
-ghost use Rattle.needs.specs.Needs.{allNeeds};
+ghost use Rattle.needs.specs.Needs.{numbers};
 ghost use Rattle.clock.specs.Later.{Calm, later};
 ghost use Rattle.moved.specs.Settled.{SameTime};
 ghost use Rattle.steps.specs.Rows.{rowOf, Made};
@@ -79,10 +78,9 @@ fn obey(
     memory: &mut [u16],
     pages: &mut [u16],
     ports: &mut [u16],
-    table: &[u16; 256],
-    needs: &[u16; 256],
+    table: &[u32; 256],
 ) -> Row
-    requires { ⌜ (length (now pages) ≡ 512) × (length (now ports) ≡ 1024) × (now table ≡ forms) × (now needs ≡ allNeeds) × (from < most) × Calm (most - 1) core
+    requires { ⌜ (length (now pages) ≡ 512) × (length (now ports) ≡ 1024) × (now table ≡ numbers) × (from < most) × Calm (most - 1) core
         × (16 ≤ chosen (joined core (now regs))) ⌝ }
     ensures { λ r. ⌜ Made from most core (machine (later from (joined core (now (regs .entry)))) (now (memory .entry)) (now (pages .entry)) (now (ports .entry))) r
         (now (regs .exit)) (now (memory .exit)) (now (pages .exit)) (now (ports .exit)) ⌝ }
@@ -93,7 +91,7 @@ fn obey(
     let mut t = release(core);
     let mut lag = from;
     loop {
-        let moved = instruct(t, lag, key, group, regs, memory, pages, ports, table, needs);
+        let moved = instruct(t, lag, key, group, regs, memory, pages, ports, table);
         t = moved.core;
         lag += 1;
         if !moved.settled {
@@ -114,10 +112,9 @@ fn turn(
     memory: &mut [u16],
     pages: &mut [u16],
     ports: &mut [u16],
-    table: &[u16; 256],
-    needs: &[u16; 256],
+    table: &[u32; 256],
 ) -> Row
-    requires { ⌜ (length (now pages) ≡ 512) × (length (now ports) ≡ 1024) × (now table ≡ forms) × (now needs ≡ allNeeds) × (lag < most) × Calm (most - 1) core ⌝ }
+    requires { ⌜ (length (now pages) ≡ 512) × (length (now ports) ≡ 1024) × (now table ≡ numbers) × (lag < most) × Calm (most - 1) core ⌝ }
     ensures { λ r. ⌜ Made lag most core (machine (later lag (joined core (now (regs .entry)))) (now (memory .entry)) (now (pages .entry)) (now (ports .entry))) r
         (now (regs .exit)) (now (memory .exit)) (now (pages .exit)) (now (ports .exit)) ⌝ }
 {
@@ -129,7 +126,7 @@ fn turn(
             lagging: true,
         };
     }
-    obey(core, lag, most, regs, memory, pages, ports, table, needs)
+    obey(core, lag, most, regs, memory, pages, ports, table)
 }
 
 // What is left of some steps after the first of them.
@@ -145,11 +142,10 @@ pub fn go_on(
     memory: &mut [u16],
     pages: &mut [u16],
     ports: &mut [u16],
-    table: &[u16; 256],
-    needs: &[u16; 256],
+    table: &[u32; 256],
     n: u32,
 ) -> Rest
-    requires { ⌜ (length (now pages) ≡ 512) × (length (now ports) ≡ 1024) × (now table ≡ forms) × (now needs ≡ allNeeds) × (0 < n) ⌝ }
+    requires { ⌜ (length (now pages) ≡ 512) × (length (now ports) ≡ 1024) × (now table ≡ numbers) × (0 < n) ⌝ }
     ensures { λ r. ⌜ (r .left < n) × (steps mil1750 n (machine (joined core (now (regs .entry))) (now (memory .entry)) (now (pages .entry)) (now (ports .entry)))
         ≡ steps mil1750 (r .left) (machine (joined (r .core) (now (regs .exit))) (now (memory .exit)) (now (pages .exit)) (now (ports .exit)))) ⌝ }
 {
@@ -157,7 +153,7 @@ pub fn go_on(
     let mut t = core;
     let mut lag = 0;
     loop {
-        let made = turn(t, lag, most, regs, memory, pages, ports, table, needs);
+        let made = turn(t, lag, most, regs, memory, pages, ports, table);
         t = made.core;
         lag = made.lag;
         if !made.lagging {

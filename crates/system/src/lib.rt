@@ -12,7 +12,7 @@ ghost use Rattle.machine.specs.Machine.{Became};
 ghost use Rattle.machine.specs.Instructions as spec;
 ghost use Rattle.machine.specs.Step.{faulted, perform};
 ghost use Rattle.isa.specs.Mil1750.{mil1750};
-ghost use Rattle.needs.specs.Needs.{wayOf};
+ghost use Rattle.needs.specs.Needs.{wayOf, numberOf};
 ghost use Rattle.command.specs.Outcome.{transferred};
 ghost use Rattle.clock.specs.Later.{Calm, later};
 ghost use Rattle.moved.specs.Settled.{Lasting, after};
@@ -75,8 +75,8 @@ fn behind(timed: bool, lag: u32) -> u32
     if timed { lag } else { 0 }
 }
 
-// XIO with any memory, from a core that may lag.
-fn command(
+// XIO (5.1) with any memory, from a core that may lag.
+pub fn command(
     core: Core,
     lag: u32,
     regs: &mut [u16; 16],
@@ -84,10 +84,9 @@ fn command(
     ports: &mut [u16],
     n: Instruction,
 ) -> Moved
-    requires { ⌜ (length (now pages) ≡ 512) × (length (now ports) ≡ 1024) × Calm lag core ⌝ }
+    requires { ⌜ (length (now pages) ≡ 512) × (length (now ports) ≡ 1024) × Calm lag core × (wayOf (operationOf (n .form)) ≡ 6) ⌝ }
     ensures { λ r. ⌜ ((memory : List ℕ) → Became (perform (later lag (joined core (now (regs .entry)))) memory (now (pages .entry)) (now (ports .entry))
-        (spec.supervised (later lag (joined core (now (regs .entry)))) n
-        (transferred (later lag (joined core (now (regs .entry)))) (now (pages .entry)) (now (ports .entry)) n)))
+        (spec.carried mil1750 (later lag (joined core (now (regs .entry)))) (now (pages .entry)) (now (ports .entry)) (spec.view (later lag (joined core (now (regs .entry)))) memory (now (pages .entry))) (Prepared.Ready n)))
         (after (r .lagging) lag (joined (r .core) (now (regs .exit)))) memory (now (pages .exit)) (now (ports .exit))) × Lasting core r ⌝ }
 {
     let timed = sees_time(n.address);
@@ -108,8 +107,19 @@ fn call(core: Core, memory: &mut [u16], pages: &[u16], k: u16) -> Core
     arrive(core, 5, v, refusal)
 }
 
+// BEX (5.30), with any registers and ports, however far the core lags.
+pub fn executive(core: Core, memory: &mut [u16], pages: &[u16], n: Instruction) -> Moved
+    requires { ⌜ (length (now pages) ≡ 512) × (wayOf (operationOf (n .form)) ≡ 7) ⌝ }
+    ensures { λ r. ⌜ ((lag : ℕ) (regs ports : List ℕ) → Became (perform (later lag (joined core regs)) (now (memory .entry)) (now (pages .entry)) ports
+        (spec.carried mil1750 (later lag (joined core regs)) (now (pages .entry)) ports (spec.view (later lag (joined core regs)) (now (memory .entry)) (now (pages .entry))) (Prepared.Ready n)))
+        (after (r .lagging) lag (joined (r .core) regs)) (now (memory .exit)) (now (pages .entry)) ports)
+        × Lasting core r ⌝ }
+{
+    unsettled(true, call(core, memory, pages, n.first % 16))
+}
+
 // LST (5.35), with any ports, however far the core lags: its words are read before it changes anything.
-fn load(
+pub fn load(
     core: Core,
     key: u16,
     group: u16,
@@ -117,45 +127,19 @@ fn load(
     memory: &[u16],
     pages: &[u16],
     n: Instruction,
+    number: u32,
 ) -> Moved
-    requires { ⌜ (length (now pages) ≡ 512) × (key ≡ keyOf (core .sw)) × (group ≡ groupOf (core .sw)) × (group < 16) × (wayOf (operationOf (n .form)) ≡ 8) ⌝ }
+    requires { ⌜ (length (now pages) ≡ 512) × (key ≡ keyOf (core .sw)) × (group ≡ groupOf (core .sw)) × (group < 16) × (wayOf (operationOf (n .form)) ≡ 8)
+        × (number ≡ numberOf (n .form)) ⌝ }
     ensures { λ r. ⌜ ((lag : ℕ) (ports : List ℕ) → Became (perform (later lag (joined core (now (regs .entry)))) (now (memory .entry)) (now (pages .entry)) ports
         (spec.carried mil1750 (later lag (joined core (now (regs .entry)))) (now (pages .entry)) ports
         (spec.view (later lag (joined core (now (regs .entry)))) (now (memory .entry)) (now (pages .entry))) (Prepared.Ready n)))
         (after (r .lagging) lag (joined (r .core) (now (regs .entry)))) (now (memory .entry)) (now (pages .entry)) ports)
         × Lasting core r ⌝ }
 {
-    let words = read_operand(key, group, memory, pages, n, 3);
+    let words = read_operand(key, group, memory, pages, n, number);
     if words.clear {
         return unsettled(true, load_status(core, words.x, words.y, words.z));
     }
     deny(core, words.fault, advance(core.ic, n.form / 4096))
-}
-
-// An operation that is no user's, by its way: XIO, BEX or LST.
-pub fn carry_system(
-    core: Core,
-    lag: u32,
-    key: u16,
-    group: u16,
-    regs: &mut [u16; 16],
-    memory: &mut [u16],
-    pages: &mut [u16],
-    ports: &mut [u16],
-    n: Instruction,
-    way: u16,
-) -> Moved
-    requires { ⌜ (length (now pages) ≡ 512) × (length (now ports) ≡ 1024) × (key ≡ keyOf (core .sw)) × (group ≡ groupOf (core .sw)) × (group < 16) × Calm lag core
-        × (way ≡ wayOf (operationOf (n .form))) × (5 < way) ⌝ }
-    ensures { λ r. ⌜ (Became (perform (later lag (joined core (now (regs .entry)))) (now (memory .entry)) (now (pages .entry)) (now (ports .entry))
-        (spec.carried mil1750 (later lag (joined core (now (regs .entry)))) (now (pages .entry)) (now (ports .entry)) (spec.view (later lag (joined core (now (regs .entry)))) (now (memory .entry)) (now (pages .entry))) (Prepared.Ready n)))
-        (after (r .lagging) lag (joined (r .core) (now (regs .exit)))) (now (memory .exit)) (now (pages .exit)) (now (ports .exit))) × Lasting core r ⌝ }
-{
-    if way == 6 {
-        return command(core, lag, regs, pages, ports, n);
-    }
-    if way == 7 {
-        return unsettled(true, call(core, memory, pages, n.first % 16));
-    }
-    load(core, key, group, regs, memory, pages, n)
 }

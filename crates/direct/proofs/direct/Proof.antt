@@ -1,19 +1,32 @@
--- Written by tools/prove.py from answers/direct.py: answer 0594fc78be0b, proof e16c2fb29b47.
+-- Written by tools/prove.py from answers/direct.py: answer cbeaf37cf08d, proof 39f216f1aec0.
 -- `direct::direct` meets its contract. Assumes nothing.
 use Rattle.direct.proofs.direct.Statement.{statement}
 use Rattle.direct.proofs.direct.Tie as tie
+use Rattle.needs.proofs.NumberLaws.{number-way}
 use borrow.Author.Needs.{needs}
+use mathlib.Core.Path.{_∙_}
 use native.Mathlib.Omega.{arith}
 
-branch-requires : tie.Need-branch-requires
-branch-requires c κs = omega (arith, c .before .before .before .before .before .before .pre .4, c .before .before .before .before .before .before .pre .5, c .before .before .before .before .before .before .pre .6, c .before .before .before .if1 .left, c .before .before .if2 .left, c .before .if3 .left, c .if4 .left)
+into-single-requires : tie.Need-into-single-requires
+into-single-requires c κs = (c .before .before .before .before .before .pre .0, c .before .before .before .before .before .pre .1, c .before .before .before .before .before .pre .2, c .before .before .before .before .before .pre .3, (number-way (c .before .before .before .before .before .args .n .form) (c .before .before .before .before .before .args .number) (c .before .before .before .before .before .pre .4) (search needs) (omega (arith, c .before .before .before .before .before .pre .6)) ∙ omega (arith, c .before .before .before .before .before .pre .5, c .before .before .before .before .before .pre .6)), c .before .before .before .before .before .pre .4)
 
-returns-5 : tie.Need-returns-5
-returns-5 c = c .branch .ensures (c .before .before .before .before .before .before .before .args .regs .now) (c .before .before .before .before .before .before .before .args .memory .now) (c .before .before .before .before .before .before .before .args .pages .now)
+into-double-requires : tie.Need-into-double-requires
+into-double-requires c κs = (c .before .before .before .before .before .before .pre .0, c .before .before .before .before .before .before .pre .1, c .before .before .before .before .before .before .pre .2, c .before .before .before .before .before .before .pre .3, (number-way (c .before .before .before .before .before .before .args .n .form) (c .before .before .before .before .before .before .args .number) (c .before .before .before .before .before .before .pre .4) (search needs) (omega (arith, c .before .before .before .before .before .before .pre .6)) ∙ omega (arith, c .before .before .before .before .before .before .pre .5, c .before .before .before .before .before .before .pre .6)), c .before .before .before .before .before .before .pre .4)
+
+store-one-requires : tie.Need-store-one-requires
+store-one-requires c κs = (c .before .before .before .before .before .before .before .pre .0, c .before .before .before .before .before .before .before .pre .1, c .before .before .before .before .before .before .before .pre .2, c .before .before .before .before .before .before .before .pre .3, (number-way (c .before .before .before .before .before .before .before .args .n .form) (c .before .before .before .before .before .before .before .args .number) (c .before .before .before .before .before .before .before .pre .4) (search needs) (omega (arith, c .before .before .before .before .before .before .before .pre .6)) ∙ omega (arith, c .before .before .before .before .before .before .before .pre .5, c .before .before .before .before .before .before .before .pre .6)), c .before .before .before .before .before .before .before .pre .4)
+
+branch-requires : tie.Need-branch-requires
+branch-requires c κs = (number-way (c .before .before .before .before .before .before .args .n .form) (c .before .before .before .before .before .before .args .number) (c .before .before .before .before .before .before .pre .4) (search needs) (omega (arith, c .before .before .before .before .before .before .pre .6)) ∙ omega (arith, c .before .before .before .before .before .before .pre .5, c .before .before .before .before .before .before .pre .6))
+
+store-two-requires : tie.Need-store-two-requires
+store-two-requires c κs = (c .before .before .before .before .before .before .before .before .pre .0, c .before .before .before .before .before .before .before .before .pre .1, c .before .before .before .before .before .before .before .before .pre .2, c .before .before .before .before .before .before .before .before .pre .3, (number-way (c .before .before .before .before .before .before .before .before .args .n .form) (c .before .before .before .before .before .before .before .before .args .number) (c .before .before .before .before .before .before .before .before .pre .4) (search needs) (omega (arith, c .before .before .before .before .before .before .before .before .pre .6)) ∙ omega (arith, c .before .before .before .before .before .before .before .before .pre .5, c .before .before .before .before .before .before .before .before .pre .6)), c .before .before .before .before .before .before .before .before .pre .4)
+
+returns-4 : tie.Need-returns-4
+returns-4 c = c .branch .ensures (c .before .before .before .before .before .before .before .args .regs .now) (c .before .before .before .before .before .before .before .args .memory .now) (c .before .before .before .before .before .before .before .args .pages .now)
 
 pub direct-spec : {M : Type 1} → statement M
 direct-spec =
     tie.close
-    (tie.spec (λ c κs. search needs) (λ c. search needs) (λ c. search needs) (λ c κs. search needs) (λ c. search needs) (λ c. search needs)
-    (λ c κs. search needs) (λ c. search needs) (λ c. search needs) (λ c κs. search needs) (λ c. search needs) (λ c. search needs) branch-requires
-    returns-5)
+    (tie.spec into-single-requires into-double-requires store-one-requires branch-requires store-two-requires (λ c. search needs) (λ c. search needs)
+    (λ c. search needs) (λ c. search needs) (λ c. search needs) (λ c. search needs) returns-4 (λ c. search needs) (λ c. search needs))

@@ -1,34 +1,39 @@
--- Written by tools/prove.py from answers/instruct.py: answer 8bba331cd66f, proof 264754121696.
+-- Written by tools/prove.py from answers/instruct.py: answer 8704be0a7299, proof e98223c4cbf6.
 -- `instruct::instruct` meets its contract. Assumes nothing.
 use Rattle.clock.specs.Later.{later}
-use Rattle.instruct.proofs.UserLaws.{prepared-later}
+use Rattle.instruct.proofs.UserLaws.{prepared-later, prepared-at, prepared-refused}
 use Rattle.instruct.proofs.instruct.Statement.{statement}
 use Rattle.instruct.proofs.instruct.Tie as tie
 use Rattle.machine.specs.Instructions.{view, instructed, carried}
 use Rattle.machine.specs.State.{joined}
 use Rattle.moved.proofs.ActLaws.{failed}
+use Rattle.page.proofs.ReachLaws.{located-inside}
 use borrow.Author.Needs.{needs}
-use mathlib.Core.Path.{refl}
+use mathlib.Core.Path.{refl, sym, _∙_}
+use native.Mathlib.Omega.{arith}
 
-prepare-requires : tie.Need-prepare-requires
-prepare-requires c κs = (c .before .before .before .before .before .before .pre .0, c .before .before .before .before .before .before .pre .3, c .before .before .before .before .before .before .pre .4, c .before .before .before .before .before .before .pre .5, c .before .before .before .before .before .before .pre .2)
+mul-w : tie.Need-mul-w
+mul-w c = omega (arith, located-inside _ _ _ _ _ _ _ _ (c .before .before .before .look-up .ensures) (c .before .first .given .1))
 
-need-with-requires : tie.Need-need-with-requires
-need-with-requires c κs = c .before .before .before .before .before .before .before .before .before .before .pre .7
+slice-read-w : tie.Need-slice-read-w
+slice-read-w c = located-inside _ _ _ _ _ _ _ _ (c .before .before .before .before .look-up .ensures) (c .before .before .first .given .1)
 
-carry-requires : tie.Need-carry-requires
-carry-requires c κs = (c .before .before .before .before .before .before .before .before .before .before .before .before .before .before .before .pre .0, c .before .before .before .before .before .before .before .before .before .before .before .before .before .before .before .pre .1, c .before .before .before .before .before .before .before .before .before .before .before .before .before .before .before .pre .3, c .before .before .before .before .before .before .before .before .before .before .before .before .before .before .before .pre .4, c .before .before .before .before .before .before .before .before .before .before .before .before .before .before .before .pre .5, c .before .before .before .before .before .before .before .before .before .before .before .before .before .before .before .pre .6, c .before .before .before .before .need-with .ensures)
+decode-with-requires : tie.Need-decode-with-requires
+decode-with-requires c κs = c .before .before .before .before .before .before .before .before .before .pre .2
+
+begin-requires : tie.Need-begin-requires
+begin-requires c κs = (c .before .before .before .before .before .before .before .before .before .before .before .before .before .before .pre .0, c .before .before .before .before .before .before .before .before .before .before .before .before .before .before .pre .1, c .before .before .before .before .before .before .before .before .before .before .before .before .before .before .pre .3, c .before .before .before .before .before .before .before .before .before .before .before .before .before .before .pre .4, c .before .before .before .before .before .before .before .before .before .before .before .before .before .before .pre .5, c .before .before .before .before .before .before .before .before .before .before .before .before .before .before .pre .6, c .before .before .before .before .decode-with .ensures, sym (c .before .before .before .before .before .before .before .before .before .look-up .ensures) ∙ c .before .before .before .before .before .before .before .first .given .1)
 
 returns : tie.Need-returns
 unfolding instructed carried
-returns c = (rw (prepared-later (c .before .before .before .before .before .before .before .before .before .before .before .before .before .before .before .before .before .before .before .before .before .before .args .lag) (joined (c .before .before .before .before .before .before .before .before .before .before .before .before .before .before .before .before .before .before .before .before .before .before .args .core) (c .before .before .before .before .before .before .before .before .before .before .before .before .before .before .before .before .before .before .before .before .before .before .args .regs .now)) (view (joined (c .before .before .before .before .before .before .before .before .before .before .before .before .before .before .before .before .before .before .before .before .before .before .args .core) (c .before .before .before .before .before .before .before .before .before .before .before .before .before .before .before .before .before .before .before .before .before .before .args .regs .now)) (c .before .before .before .before .before .before .before .before .before .before .before .before .before .before .before .before .before .before .before .before .before .before .args .memory .now) (c .before .before .before .before .before .before .before .before .before .before .before .before .before .before .before .before .before .before .before .before .before .before .args .pages .now)), ← c .before .before .before .before .before .before .before .before .before .before .before .before .before .before .before .prepare .ensures, c .before .before .before .before .before .before .before .before .before .before .before .before .before .prepared .given .1) (c .before .before .before .before .before .before .carry .ensures .0), c .before .before .before .before .before .before .carry .ensures .1)
+returns c = (rw (prepared-later (c .before .before .before .before .before .before .before .before .before .before .before .before .before .before .before .before .before .before .before .before .before .args .lag) (joined (c .before .before .before .before .before .before .before .before .before .before .before .before .before .before .before .before .before .before .before .before .before .args .core) (c .before .before .before .before .before .before .before .before .before .before .before .before .before .before .before .before .before .before .before .before .before .args .regs .now)) (view (joined (c .before .before .before .before .before .before .before .before .before .before .before .before .before .before .before .before .before .before .before .before .before .args .core) (c .before .before .before .before .before .before .before .before .before .before .before .before .before .before .before .before .before .before .before .before .before .args .regs .now)) (c .before .before .before .before .before .before .before .before .before .before .before .before .before .before .before .before .before .before .before .before .before .args .memory .now) (c .before .before .before .before .before .before .before .before .before .before .before .before .before .before .before .before .before .before .before .before .before .args .pages .now)), prepared-at (joined (c .before .before .before .before .before .before .before .before .before .before .before .before .before .before .before .before .before .before .before .before .before .args .core) (c .before .before .before .before .before .before .before .before .before .before .before .before .before .before .before .before .before .before .before .before .before .args .regs .now)) (c .before .before .before .before .before .before .before .before .before .before .before .before .before .before .before .before .before .before .before .before .before .args .memory .now) (c .before .before .before .before .before .before .before .before .before .before .before .before .before .before .before .before .before .before .before .before .before .args .pages .now) _ _ (c .before .before .before .before .before .before .before .before .before .before .before .before .before .before .before .before .before .before .before .before .before .pre .3) (c .before .before .before .before .before .before .before .before .before .before .before .before .before .before .before .before .before .before .before .before .before .pre .4) _ (c .before .before .before .before .before .before .before .before .before .before .before .before .before .before .before .before .look-up .ensures) _ (c .before .before .before .before .before .before .before .before .before .before .before .before .before .before .first .given .1)) (c .before .before .before .before .before .before .begin .ensures .0), c .before .before .before .before .before .before .begin .ensures .1)
 
 returns-2 : tie.Need-returns-2
 unfolding instructed carried
-returns-2 c = (rw (c .deny .ensures .0, prepared-later (c .before .before .before .before .before .before .before .before .before .before .before .args .lag) (joined (c .before .before .before .before .before .before .before .before .before .before .before .args .core) (c .before .before .before .before .before .before .before .before .before .before .before .args .regs .now)) (view (joined (c .before .before .before .before .before .before .before .before .before .before .before .args .core) (c .before .before .before .before .before .before .before .before .before .before .before .args .regs .now)) (c .before .before .before .before .before .before .before .before .before .before .before .args .memory .now) (c .before .before .before .before .before .before .before .before .before .before .before .args .pages .now)), ← c .before .before .before .before .prepare .ensures, c .before .before .prepared2 .given .1) (failed (later (c .before .before .before .before .before .before .before .before .before .before .before .args .lag) (joined (c .before .before .before .before .before .before .before .before .before .before .before .args .core) (c .before .before .before .before .before .before .before .before .before .before .before .args .regs .now))) _ (c .before .before .before .before .before .before .before .before .before .before .before .args .memory .now) _ (c .before .before .before .before .before .before .before .before .before .before .before .args .pages .now) (c .before .before .before .before .before .before .before .before .before .before .before .args .ports .now) _ _ (refl) (c .deny .ensures .1 (c .before .before .before .before .before .before .before .before .before .before .before .args .lag) (c .before .before .before .before .before .before .before .before .before .before .before .args .regs .now))), c .deny .ensures .2)
+returns-2 c = (rw (c .deny .ensures .0, prepared-later (c .before .before .before .before .before .before .before .before .before .before .args .lag) (joined (c .before .before .before .before .before .before .before .before .before .before .args .core) (c .before .before .before .before .before .before .before .before .before .before .args .regs .now)) (view (joined (c .before .before .before .before .before .before .before .before .before .before .args .core) (c .before .before .before .before .before .before .before .before .before .before .args .regs .now)) (c .before .before .before .before .before .before .before .before .before .before .args .memory .now) (c .before .before .before .before .before .before .before .before .before .before .args .pages .now)), prepared-refused (joined (c .before .before .before .before .before .before .before .before .before .before .args .core) (c .before .before .before .before .before .before .before .before .before .before .args .regs .now)) (c .before .before .before .before .before .before .before .before .before .before .args .memory .now) (c .before .before .before .before .before .before .before .before .before .before .args .pages .now) _ _ (c .before .before .before .before .before .before .before .before .before .before .pre .3) (c .before .before .before .before .before .before .before .before .before .before .pre .4) _ (c .before .before .before .before .before .look-up .ensures) _ (c .before .before .before .first2 .given .1), ← c .before .advance .ensures) (failed (later (c .before .before .before .before .before .before .before .before .before .before .args .lag) (joined (c .before .before .before .before .before .before .before .before .before .before .args .core) (c .before .before .before .before .before .before .before .before .before .before .args .regs .now))) _ (c .before .before .before .before .before .before .before .before .before .before .args .memory .now) _ (c .before .before .before .before .before .before .before .before .before .before .args .pages .now) (c .before .before .before .before .before .before .before .before .before .before .args .ports .now) _ _ (refl) (c .deny .ensures .1 (c .before .before .before .before .before .before .before .before .before .before .args .lag) (c .before .before .before .before .before .before .before .before .before .before .args .regs .now))), c .deny .ensures .2)
 
 pub instruct-spec : {M : Type 1} → statement M
 instruct-spec =
     tie.close
-    (tie.spec prepare-requires (λ c. search needs) need-with-requires carry-requires (λ c. search needs) (λ c κs. search needs) (λ c. search needs)
-    (λ c. search needs) (λ c. search needs) returns (λ c. search needs) (λ c. search needs) returns-2)
+    (tie.spec (λ c κs. search needs) (λ c. search needs) mul-w slice-read-w decode-with-requires begin-requires (λ c. search needs)
+    (λ c κs. search needs) (λ c κs. search needs) (λ c. search needs) (λ c. search needs) (λ c. search needs) returns (λ c. search needs) returns-2)

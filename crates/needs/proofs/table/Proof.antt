@@ -1,13 +1,16 @@
--- Written by tools/prove.py from answers/needs.py: answer 91bae912bbbf, proof df8ea7561a57.
+-- Written by tools/prove.py from answers/needs.py: answer 7e6bf1f4c335, proof 9086330efac9.
 -- `needs::table` meets its contract. Assumes nothing.
+use Rattle.decode.specs.Decode.{formOf}
+use Rattle.decode.specs.Pages.{pages}
 use Rattle.isa.specs.Accesses.{wordsMoved, wordsOfInteger, wordsOfFloat, wordsRead, wordsWritten}
+use Rattle.isa.specs.Addressing.{inMemory}
 use Rattle.needs.proofs.table.Statement.{statement}
 use Rattle.needs.proofs.table.Tie as tie
-use Rattle.needs.specs.Needs.{exceptions, wayOf, needOf, allNeeds}
+use Rattle.needs.specs.Needs.{numbers, numberOf, ruleOf, countsOf, needOf, exceptions, wayOf}
 use mathlib.Core.Path.{refl}
 
 returns : tie.Need-returns
-unfolding allNeeds needOf exceptions wayOf wordsRead wordsMoved wordsOfFloat wordsOfInteger wordsWritten
+unfolding numbers formOf pages numberOf ruleOf countsOf needOf exceptions wayOf wordsRead wordsMoved wordsOfFloat wordsOfInteger wordsWritten inMemory
 returns c = refl
 
 pub table-spec : {M : Type 1} → statement M

@@ -1,20 +1,13 @@
--- Written by tools/prove.py from answers/needs.py: answer c305e25696c9, proof 8cde75c0fc35.
+-- Written by tools/prove.py from answers/needs.py: answer 77b076839367, proof 300a9f3e6765.
 -- `needs::write_count` meets its contract. Assumes nothing.
-use Rattle.needs.proofs.NeedsLaws.{register-written, operand-written}
+use Rattle.needs.proofs.NumberLaws.{writes-counted}
 use Rattle.needs.proofs.write_count.Statement.{statement}
 use Rattle.needs.proofs.write_count.Tie as tie
 use borrow.Author.Needs.{needs}
-use mathlib.Core.Path.{refl}
 use native.Mathlib.Omega.{arith}
 
 returns : tie.Need-returns
-returns c = (λ regs p. rw (operand-written regs (c .before .before .before .before .args .n) (c .before .before .before .before .args .need) (c .before .before .before .before .pre) p (λ q. omega (arith, q, c .before .before .before .if1 .taken)), ← c .before .in-memory .ensures, c .if2 .taken) refl, omega arith)
-
-returns-2 : tie.Need-returns-2
-returns-2 c = (λ regs p. rw (operand-written regs (c .before .before .before .before .args .n) (c .before .before .before .before .args .need) (c .before .before .before .before .pre) p (λ q. omega (arith, q, c .before .before .before .if1 .taken)), ← c .before .in-memory .ensures, c .if2 .left) refl, omega arith)
-
-returns-3 : tie.Need-returns-3
-returns-3 c = (λ regs p. rw (register-written regs (c .before .args .n) (c .before .args .need) (c .before .pre) p (omega (arith, c .if1 .left))) refl, omega arith)
+returns c = (λ regs p. writes-counted regs (c .args .n) (c .args .number) (c .pre) (search needs) p, omega arith)
 
 pub write-count-spec : {M : Type 1} → statement M
-write-count-spec = tie.close (tie.spec (λ c κs. search needs) returns returns-2 returns-3)
+write-count-spec = tie.close (tie.spec (λ c. search needs) returns)

@@ -1,13 +1,46 @@
--- Written by tools/prove.py from answers/ordinary.py: answer fdfeecf57637, proof 8f59d606b37b.
+-- Written by tools/prove.py from answers/ordinary.py: answer e6db369dd7e0, proof 44fdabba8fe2.
 -- `ordinary::ordinary` meets its contract. Assumes nothing.
 use Rattle.decode.specs.Forms.{operationOf}
 use Rattle.effect.specs.Work.{context}
-use Rattle.ordinary.proofs.OrdinaryLaws.{in-range, past-all}
+use Rattle.ordinary.proofs.OrdinaryLaws.{in-range, past-all, jump-left, loads-left, stores-left, integers-left, logic-left}
 use Rattle.ordinary.proofs.ordinary.Statement.{statement}
 use Rattle.ordinary.proofs.ordinary.Tie as tie
 use borrow.Author.Needs.{needs}
 use mathlib.Core.Path.{refl, _∙_}
 use native.Mathlib.Omega.{arith}
+
+jump-operation-requires : tie.Need-jump-operation-requires
+jump-operation-requires c κs = jump-left (operationOf (c .before .before .before .before .before .before .before .before .args .n .form)) (c .before .before .before .before .before .before .before .before .pre) (omega arith) (omega arith) (omega arith)
+
+load-operation-requires : tie.Need-load-operation-requires
+load-operation-requires c κs = loads-left (operationOf (c .before .before .before .before .before .before .before .before .args .n .form)) (c .before .before .before .before .before .before .before .before .pre)
+
+load-operation-requires-2 : tie.Need-load-operation-requires-2
+load-operation-requires-2 c κs = loads-left (operationOf (c .before .before .before .before .args .n .form)) (c .before .before .before .before .pre)
+
+store-operation-requires : tie.Need-store-operation-requires
+store-operation-requires c κs = stores-left (operationOf (c .before .before .before .before .before .args .n .form)) (c .before .before .before .before .before .pre)
+
+store-operation-requires-2 : tie.Need-store-operation-requires-2
+store-operation-requires-2 c κs = stores-left (operationOf (c .before .before .before .before .before .before .args .n .form)) (c .before .before .before .before .before .before .pre)
+
+integer-operation-requires : tie.Need-integer-operation-requires
+integer-operation-requires c κs = integers-left (operationOf (c .before .before .before .before .before .before .before .args .n .form)) (c .before .before .before .before .before .before .before .pre)
+
+integer-operation-requires-2 : tie.Need-integer-operation-requires-2
+integer-operation-requires-2 c κs = integers-left (operationOf (c .before .before .before .before .args .n .form)) (c .before .before .before .before .pre)
+
+integer-operation-requires-3 : tie.Need-integer-operation-requires-3
+integer-operation-requires-3 c κs = integers-left (operationOf (c .before .before .before .before .before .before .args .n .form)) (c .before .before .before .before .before .before .pre)
+
+integer-operation-requires-4 : tie.Need-integer-operation-requires-4
+integer-operation-requires-4 c κs = integers-left (operationOf (c .before .before .before .before .before .before .before .before .args .n .form)) (c .before .before .before .before .before .before .before .before .pre)
+
+logical-operation-requires : tie.Need-logical-operation-requires
+logical-operation-requires c κs = logic-left (operationOf (c .before .before .before .before .args .n .form)) (c .before .before .before .before .pre)
+
+logical-operation-requires-2 : tie.Need-logical-operation-requires-2
+logical-operation-requires-2 c κs = logic-left (operationOf (c .before .before .before .before .before .before .args .n .form)) (c .before .before .before .before .before .before .pre)
 
 returns : tie.Need-returns
 returns c = c .bit-operation .ensures ∙ in-range (context (c .before .before .before .before .before .args .regs .now) (c .before .before .before .before .before .args .ic) (c .before .before .before .before .before .args .sw) (c .before .before .before .before .before .args .pi)) (c .before .before .before .before .before .args .n) (c .before .before .before .before .before .args .x) (c .before .before .before .before .before .args .y) (c .before .before .before .before .before .args .z) (operationOf (c .before .before .before .before .before .args .n .form)) 0 0 6 refl (omega arith) (omega arith)
@@ -78,9 +111,9 @@ returns-22 c = c .nothing .ensures (c .before .before .before .before .before .b
 pub ordinary-spec : {M : Type 1} → statement M
 ordinary-spec =
     tie.close
-    (tie.spec (λ c κs. search needs) (λ c κs. search needs) (λ c κs. search needs) (λ c κs. search needs) (λ c κs. search needs) (λ c κs. search needs)
-    (λ c κs. search needs) (λ c κs. search needs) (λ c κs. search needs) (λ c κs. search needs) (λ c κs. search needs) (λ c κs. search needs)
-    (λ c κs. search needs) (λ c κs. search needs) (λ c κs. search needs) (λ c κs. search needs) (λ c κs. search needs) (λ c κs. search needs)
-    (λ c κs. search needs) (λ c κs. search needs) (λ c κs. search needs) (λ c κs. search needs) returns returns-2 returns-3 returns-4 returns-5
-    returns-6 returns-7 returns-8 returns-9 returns-10 returns-11 returns-12 returns-13 returns-14 returns-15 returns-16 returns-17 returns-18
-    returns-19 returns-20 returns-21 returns-22)
+    (tie.spec (λ c κs. search needs) (λ c κs. search needs) (λ c κs. search needs) (λ c κs. search needs) jump-operation-requires
+    load-operation-requires load-operation-requires-2 store-operation-requires store-operation-requires-2 integer-operation-requires
+    (λ c κs. search needs) integer-operation-requires-2 (λ c κs. search needs) integer-operation-requires-3 (λ c κs. search needs)
+    integer-operation-requires-4 (λ c κs. search needs) logical-operation-requires (λ c κs. search needs) logical-operation-requires-2
+    (λ c κs. search needs) (λ c κs. search needs) returns returns-2 returns-3 returns-4 returns-5 returns-6 returns-7 returns-8 returns-9 returns-10
+    returns-11 returns-12 returns-13 returns-14 returns-15 returns-16 returns-17 returns-18 returns-19 returns-20 returns-21 returns-22)

@@ -1,4 +1,4 @@
--- Written by tools/prove.py from answers/ordinary.py: answer f376deef0892, proof ebaad3c13afd.
+-- Written by tools/prove.py from answers/ordinary.py: answer 5b19dd956ae5, proof 6bbc6aea0fa3.
 -- `ordinary::work` meets its contract. Assumes nothing.
 use Rattle.effect.specs.Work.{worked}
 use Rattle.isa.specs.Mil1750.{contextOf}
@@ -9,6 +9,9 @@ use Rattle.ordinary.proofs.work.Tie as tie
 use borrow.Author.Needs.{needs}
 use mathlib.Core.Path.{refl}
 
+ordinary-requires : tie.Need-ordinary-requires
+ordinary-requires c κs = c .before .before .before .pre .2
+
 returns : tie.Need-returns
 unfolding affected stored worked contextOf withPi withSw withIc withRegs
 returns c = (rw (← c .before .before .before .before .before .before .before .ordinary .ensures, ← c .before .before .before .before .before .apply .ensures, ← c .with-cs .ensures) refl, rw (← c .before .before .before .before .before .before .before .ordinary .ensures) (c .before .before .before .store-words .ensures))
@@ -16,4 +19,4 @@ returns c = (rw (← c .before .before .before .before .before .before .before .
 pub work-spec : {M : Type 1} → statement M
 work-spec =
     tie.close
-    (tie.spec (λ c κs. search needs) (λ c κs. search needs) (λ c κs. search needs) (λ c κs. search needs) (λ c. search needs) returns)
+    (tie.spec ordinary-requires (λ c κs. search needs) (λ c κs. search needs) (λ c κs. search needs) (λ c. search needs) returns)

@@ -1,4 +1,4 @@
--- Written by tools/prove.py from answers/steps.py: answer b2db446d0f34, proof 9515929ffe91.
+-- Written by tools/prove.py from answers/steps.py: answer f7fac82f826d, proof 0401cdead4b3.
 -- `steps::go_on` meets its contract. Assumes nothing.
 use Prim.Native.Nat.{_+_, _≤_, _<_, _-_}
 use Rattle.clock.proofs.LaterLaws.{calm-fewer}
@@ -11,20 +11,19 @@ use Rattle.moved.proofs.TimeLaws.{calm-same}
 use Rattle.steps.proofs.StepLaws.{stretch-start, stretch-cut, stretch-end, stretch-on}
 use Rattle.steps.proofs.go_on.Statement.{statement}
 use Rattle.steps.proofs.go_on.Tie as tie
-use borrow.Author.Needs.{needs}
 use borrow.Author.Tests.{not-true, not-false}
 use lib.ListN.{length}
 use mathlib.Core.Path.{_≡_, refl, _∙_}
 use native.Mathlib.Omega.{arith}
 
 abbrev Inv-loop : tie.InvT-loop
-Inv-loop regs₀ memory₀ pages₀ ports₀ table needs n most t₀ lag₀ regs memory pages ports t lag = (length memory ≡ length memory₀) × (length pages ≡ length pages₀) × (length ports ≡ length ports₀) × (lag < most) × (most ≤ n) × Calm (most - 1) t × (steps mil1750 n (machine (joined t₀ regs₀) memory₀ pages₀ ports₀) ≡ steps mil1750 (n - lag) (machine (later lag (joined t regs)) memory pages ports))
+Inv-loop regs₀ memory₀ pages₀ ports₀ table n most t₀ lag₀ regs memory pages ports t lag = (length memory ≡ length memory₀) × (length pages ≡ length pages₀) × (length ports ≡ length ports₀) × (lag < most) × (most ≤ n) × Calm (most - 1) t × (steps mil1750 n (machine (joined t₀ regs₀) memory₀ pages₀ ports₀) ≡ steps mil1750 (n - lag) (machine (later lag (joined t regs)) memory pages ports))
 
 abbrev μ-loop : tie.MeasureT-loop
-μ-loop regs₀ memory₀ pages₀ ports₀ table needs n most t₀ lag₀ regs memory pages ports t lag = most - lag
+μ-loop regs₀ memory₀ pages₀ ports₀ table n most t₀ lag₀ regs memory pages ports t lag = most - lag
 
 sub-quiet : tie.Need-sub-quiet Inv-loop μ-loop
-sub-quiet c = omega (arith, c .before .before .before .pre .4)
+sub-quiet c = omega (arith, c .before .before .before .pre .3)
 
 quiet-requires : tie.Need-quiet-requires Inv-loop μ-loop
 quiet-requires c κs = omega arith
@@ -33,16 +32,16 @@ add-most : tie.Need-add-most Inv-loop μ-loop
 add-most c = omega (arith, c .quiet .ensures .1)
 
 loop-holds : tie.Need-loop-holds Inv-loop μ-loop
-loop-holds c = (refl, refl, refl, omega arith, omega (arith, c .quiet .ensures .1, c .before .before .before .before .pre .4), calm-fewer _ _ _ (omega arith) (c .quiet .ensures .2), stretch-start mil1750 (c .before .before .before .before .args .n) 0 (joined (c .before .before .before .before .args .core) (c .before .before .before .before .args .regs .now)) (c .before .before .before .before .args .memory .now) (c .before .before .before .before .args .pages .now) (c .before .before .before .before .args .ports .now) refl)
+loop-holds c = (refl, refl, refl, omega arith, omega (arith, c .quiet .ensures .1, c .before .before .before .before .pre .3), calm-fewer _ _ _ (omega arith) (c .quiet .ensures .2), stretch-start mil1750 (c .before .before .before .before .args .n) 0 (joined (c .before .before .before .before .args .core) (c .before .before .before .before .args .regs .now)) (c .before .before .before .before .args .memory .now) (c .before .before .before .before .args .pages .now) (c .before .before .before .before .args .ports .now) refl)
 
 turn-requires : tie.Need-turn-requires Inv-loop μ-loop
-turn-requires c κs = (omega arith, omega arith, c .before .before .before .before .before .before .before .before .before .pre .2, c .before .before .before .before .before .before .before .before .before .pre .3, c .before .before .before .before .loop .inv .3, c .before .before .before .before .loop .inv .5)
+turn-requires c κs = (omega arith, omega arith, c .before .before .before .before .before .before .before .before .before .pre .2, c .before .before .before .before .loop .inv .3, c .before .before .before .before .loop .inv .5)
 
 tick-requires : tie.Need-tick-requires Inv-loop μ-loop
 tick-requires c κs = omega arith
 
-sub-t25 : tie.Need-sub-t25 Inv-loop μ-loop
-sub-t25 c = omega (arith, c .before .before .before .before .before .before .before .before .before .before .turn .ensures .within, c .before .before .before .before .before .before .before .before .before .before .before .before .before .before .before .loop .inv .4)
+sub-t24 : tie.Need-sub-t24 Inv-loop μ-loop
+sub-t24 c = omega arith
 
 same-length : tie.Need-same-length Inv-loop μ-loop
 same-length c = let l = c .before .before .before .before .before .before .before .before .before .before .before .before .before .before .before .loop in c .before .before .before .before .before .before .before .before .before .before .turn .kept .1 .1 .1 .1 .0 ∙ l .inv .0
@@ -65,8 +64,8 @@ tick-by-requires c κs = let l = c .before .before .before .before .before .befo
 tick-requires-2 : tie.Need-tick-requires-2 Inv-loop μ-loop
 tick-requires-2 c κs = omega arith
 
-sub-t26 : tie.Need-sub-t26 Inv-loop μ-loop
-sub-t26 c = omega (arith, c .before .before .before .before .before .before .before .before .before .before .before .before .before .before .before .before .before .loop .inv .4)
+sub-t25 : tie.Need-sub-t25 Inv-loop μ-loop
+sub-t25 c = omega (arith, c .before .before .before .before .before .before .before .before .before .before .before .before .turn .ensures .within, c .before .before .before .before .before .before .before .before .before .before .before .before .before .before .before .before .before .loop .inv .4)
 
 same-length-4 : tie.Need-same-length-4 Inv-loop μ-loop
 same-length-4 c = let l = c .before .before .before .before .before .before .before .before .before .before .before .before .before .before .before .before .before .loop in c .before .before .before .before .before .before .before .before .before .before .before .before .turn .kept .1 .1 .1 .1 .0 ∙ l .inv .0
@@ -89,5 +88,5 @@ loop-again c = let l = c .before .before .before .before .before .before .before
 pub go-on-spec : {M : Type 1} → statement M
 go-on-spec =
     tie.close
-    (tie.spec Inv-loop μ-loop sub-quiet quiet-requires add-most loop-holds turn-requires tick-requires sub-t25 same-length same-length-2 same-length-3
-    returns sub-tick-by tick-by-requires tick-requires-2 sub-t26 same-length-4 same-length-5 same-length-6 returns-2 loop-less loop-again)
+    (tie.spec Inv-loop μ-loop sub-quiet quiet-requires add-most loop-holds turn-requires tick-requires sub-t24 same-length same-length-2 same-length-3
+    returns sub-tick-by tick-by-requires tick-requires-2 sub-t25 same-length-4 same-length-5 same-length-6 returns-2 loop-less loop-again)

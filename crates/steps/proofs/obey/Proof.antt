@@ -1,4 +1,4 @@
--- Written by tools/prove.py from answers/steps.py: answer d7a542d7ba96, proof 640d7bbacf5b.
+-- Written by tools/prove.py from answers/steps.py: answer 9c4d3123d86d, proof c262b2a4b983.
 -- `steps::obey` meets its contract. Assumes nothing.
 use Prim.Native.Nat.{ℕ, _+_, _≤_, _<_, _-_}
 use Rattle.clock.proofs.LaterLaws.{calm-fewer}
@@ -11,7 +11,6 @@ use Rattle.moved.specs.Settled.{SameTime}
 use Rattle.steps.proofs.StepLaws.{going, row-made, row-on, sw-released, hold-released, time-released, later-released, chosen-released, chosen-later, chosen-settled}
 use Rattle.steps.proofs.obey.Statement.{statement}
 use Rattle.steps.proofs.obey.Tie as tie
-use borrow.Author.Needs.{needs}
 use borrow.Author.Tests.{not-false}
 use lib.ListN.{length}
 use mathlib.Core.Bool.{false}
@@ -19,10 +18,10 @@ use mathlib.Core.Path.{_≡_, refl, sym, ap, _∙_}
 use native.Mathlib.Omega.{arith}
 
 abbrev Inv-loop : tie.InvT-loop
-Inv-loop from most regs₀ memory₀ pages₀ ports₀ table needs key group end t₀ lag₀ regs memory pages ports t lag = (length memory ≡ length memory₀) × (length pages ≡ length pages₀) × (length ports ≡ length ports₀) × (lag₀ ≤ lag) × (lag < end) × (end ≤ most) × (key ≡ keyOf (t .sw)) × (group ≡ groupOf (t .sw)) × (t .hold ≡ false) × Calm (most - 1) t × (lag + 1 < end → 16 ≤ chosen (joined t regs)) × SameTime t₀ t × ((k : ℕ) → going mil1750 (k + (lag - lag₀)) (later lag₀ (joined t₀ regs₀)) memory₀ pages₀ ports₀ ≡ going mil1750 k (later lag (joined t regs)) memory pages ports)
+Inv-loop from most regs₀ memory₀ pages₀ ports₀ table key group end t₀ lag₀ regs memory pages ports t lag = (length memory ≡ length memory₀) × (length pages ≡ length pages₀) × (length ports ≡ length ports₀) × (lag₀ ≤ lag) × (lag < end) × (end ≤ most) × (key ≡ keyOf (t .sw)) × (group ≡ groupOf (t .sw)) × (t .hold ≡ false) × Calm (most - 1) t × (lag + 1 < end → 16 ≤ chosen (joined t regs)) × SameTime t₀ t × ((k : ℕ) → going mil1750 (k + (lag - lag₀)) (later lag₀ (joined t₀ regs₀)) memory₀ pages₀ ports₀ ≡ going mil1750 k (later lag (joined t regs)) memory pages ports)
 
 abbrev μ-loop : tie.MeasureT-loop
-μ-loop from most regs₀ memory₀ pages₀ ports₀ table needs key group end t₀ lag₀ regs memory pages ports t lag = end - lag
+μ-loop from most regs₀ memory₀ pages₀ ports₀ table key group end t₀ lag₀ regs memory pages ports t lag = end - lag
 
 key-of-requires : tie.Need-key-of-requires Inv-loop μ-loop
 key-of-requires c κs = omega arith
@@ -31,16 +30,16 @@ group-of-requires : tie.Need-group-of-requires Inv-loop μ-loop
 group-of-requires c κs = omega arith
 
 end-of-requires : tie.Need-end-of-requires Inv-loop μ-loop
-end-of-requires c κs = c .before .before .before .before .before .pre .4
+end-of-requires c κs = c .before .before .before .before .before .pre .3
 
 release-requires : tie.Need-release-requires Inv-loop μ-loop
 release-requires c κs = omega arith
 
 loop-holds : tie.Need-loop-holds Inv-loop μ-loop
-loop-holds c = (refl, refl, refl, omega arith, c .before .end-of .ensures .1, c .before .end-of .ensures .2, c .before .before .before .key-of .ensures .0 ∙ ap keyOf (sw-released _ _ (c .release .ensures)), c .before .before .group-of .ensures .0 ∙ ap groupOf (sw-released _ _ (c .release .ensures)), hold-released _ _ (c .release .ensures), calm-same _ _ _ (time-released _ _ (c .release .ensures)) (c .before .before .before .before .before .before .before .pre .5), λ h. rw (chosen-released _ _ (c .release .ensures) (c .before .end-of .ensures .3 h) (c .before .before .before .before .before .before .before .args .regs .now)) (c .before .before .before .before .before .before .before .pre .6), same-here _, λ k. ap (λ j. going mil1750 j (later (c .before .before .before .before .before .before .before .args .from) (joined (c .release .result) (c .before .before .before .before .before .before .before .args .regs .now))) (c .before .before .before .before .before .before .before .args .memory .now) (c .before .before .before .before .before .before .before .args .pages .now) (c .before .before .before .before .before .before .before .args .ports .now)) (omega arith))
+loop-holds c = (refl, refl, refl, omega arith, c .before .end-of .ensures .1, c .before .end-of .ensures .2, c .before .before .before .key-of .ensures .0 ∙ ap keyOf (sw-released _ _ (c .release .ensures)), c .before .before .group-of .ensures .0 ∙ ap groupOf (sw-released _ _ (c .release .ensures)), hold-released _ _ (c .release .ensures), calm-same _ _ _ (time-released _ _ (c .release .ensures)) (c .before .before .before .before .before .before .before .pre .4), λ h. rw (chosen-released _ _ (c .release .ensures) (c .before .end-of .ensures .3 h) (c .before .before .before .before .before .before .before .args .regs .now)) (c .before .before .before .before .before .before .before .pre .5), same-here _, λ k. ap (λ j. going mil1750 j (later (c .before .before .before .before .before .before .before .args .from) (joined (c .release .result) (c .before .before .before .before .before .before .before .args .regs .now))) (c .before .before .before .before .before .before .before .args .memory .now) (c .before .before .before .before .before .before .before .args .pages .now) (c .before .before .before .before .before .before .before .args .ports .now)) (omega arith))
 
 instruct-requires : tie.Need-instruct-requires Inv-loop μ-loop
-instruct-requires c κs = (omega arith, omega arith, c .before .before .before .before .before .before .before .before .before .before .before .before .pre .2, c .before .before .before .before .loop .inv .6, c .before .before .before .before .loop .inv .7, c .before .before .before .before .before .before .before .group-of .ensures .1, calm-fewer _ _ _ (omega (arith, c .before .before .before .before .loop .inv .4, c .before .before .before .before .loop .inv .5)) (c .before .before .before .before .loop .inv .9), c .before .before .before .before .before .before .before .before .before .before .before .before .pre .3)
+instruct-requires c κs = (omega arith, omega arith, c .before .before .before .before .before .before .before .before .before .before .before .before .pre .2, c .before .before .before .before .loop .inv .6, c .before .before .before .before .loop .inv .7, c .before .before .before .before .before .before .before .group-of .ensures .1, calm-fewer _ _ _ (omega (arith, c .before .before .before .before .loop .inv .4, c .before .before .before .before .loop .inv .5)) (c .before .before .before .before .loop .inv .9))
 
 add-lag : tie.Need-add-lag Inv-loop μ-loop
 add-lag c = omega (arith, c .before .before .before .before .before .before .before .before .before .before .before .before .loop .inv .4)
@@ -58,7 +57,7 @@ same-length-3 : tie.Need-same-length-3 Inv-loop μ-loop
 same-length-3 c = let l = c .before .before .before .before .before .before .before .before .before .before .before .before .before .before .before .loop in c .before .before .before .before .before .before .before .before .before .before .instruct .kept .1 .1 .1 .1 .1 .1 .1 .0 ∙ l .inv .2
 
 returns : tie.Need-returns Inv-loop μ-loop
-returns c = let l = c .before .before .before .before .before .before .before .before .before .before .before .before .before .before .before .loop in rw (c .ended .ensures) (record { onward = omega (arith, l .inv .3); within = omega (arith, l .inv .4, l .inv .5); time-kept = λ h. same-onward _ _ _ (time-released _ _ (c .before .before .before .before .before .before .before .before .before .before .before .before .before .before .before .before .release .ensures)) (same-onward _ _ _ (l .inv .11) (c .before .before .before .before .before .before .before .before .before .before .instruct .ensures .1 .time-kept h)); made = row-made mil1750 (c .before .before .before .before .before .before .before .before .before .before .before .before .before .before .before .before .before .before .before .before .before .before .before .args .from) (l .lag) (l .inv .3) (later (c .before .before .before .before .before .before .before .before .before .before .before .before .before .before .before .before .before .before .before .before .before .before .before .args .from) (joined (c .before .before .before .before .before .before .before .before .before .before .before .before .before .before .before .before .release .result) (c .before .before .before .before .before .before .before .before .before .before .before .before .before .before .before .before .before .before .before .before .before .before .before .args .regs .now))) (later (l .lag) (joined (l .t) (l .regs))) (c .before .before .before .before .before .before .before .before .before .before .before .before .before .before .before .before .before .before .before .before .before .before .before .args .memory .now) (c .before .before .before .before .before .before .before .before .before .before .before .before .before .before .before .before .before .before .before .before .before .before .before .args .pages .now) (c .before .before .before .before .before .before .before .before .before .before .before .before .before .before .before .before .before .before .before .before .before .before .before .args .ports .now) (l .memory) (l .pages) (l .ports) (l .inv .12) (c .before .before .before .before .before .before .before .before .before .before .instruct .result .lagging) (c .before .before .before .before .before .before .before .before .before .before .instruct .result .core) _ _ _ _ (c .before .before .before .before .before .before .before .before .before .before .instruct .ensures .0) (later (c .before .before .before .before .before .before .before .before .before .before .before .before .before .before .before .before .before .before .before .before .before .before .before .args .from) (joined (c .before .before .before .before .before .before .before .before .before .before .before .before .before .before .before .before .before .before .before .before .before .before .before .args .core) (c .before .before .before .before .before .before .before .before .before .before .before .before .before .before .before .before .before .before .before .before .before .before .before .args .regs .now))) (later-released _ _ (c .before .before .before .before .before .before .before .before .before .before .before .before .before .before .before .before .release .ensures) (c .before .before .before .before .before .before .before .before .before .before .before .before .before .before .before .before .before .before .before .before .before .before .before .args .from) (c .before .before .before .before .before .before .before .before .before .before .before .before .before .before .before .before .before .before .before .before .before .before .before .args .regs .now)) (rw (chosen-later (c .before .before .before .before .before .before .before .before .before .before .before .before .before .before .before .before .before .before .before .before .before .before .before .args .from) (joined (c .before .before .before .before .before .before .before .before .before .before .before .before .before .before .before .before .before .before .before .before .before .before .before .args .core) (c .before .before .before .before .before .before .before .before .before .before .before .before .before .before .before .before .before .before .before .before .before .before .before .args .regs .now))) (c .before .before .before .before .before .before .before .before .before .before .before .before .before .before .before .before .before .before .before .before .before .before .before .pre .6)) })
+returns c = let l = c .before .before .before .before .before .before .before .before .before .before .before .before .before .before .before .loop in rw (c .ended .ensures) (record { onward = omega (arith, l .inv .3); within = omega (arith, l .inv .4, l .inv .5); time-kept = λ h. same-onward _ _ _ (time-released _ _ (c .before .before .before .before .before .before .before .before .before .before .before .before .before .before .before .before .release .ensures)) (same-onward _ _ _ (l .inv .11) (c .before .before .before .before .before .before .before .before .before .before .instruct .ensures .1 .time-kept h)); made = row-made mil1750 (c .before .before .before .before .before .before .before .before .before .before .before .before .before .before .before .before .before .before .before .before .before .before .before .args .from) (l .lag) (l .inv .3) (later (c .before .before .before .before .before .before .before .before .before .before .before .before .before .before .before .before .before .before .before .before .before .before .before .args .from) (joined (c .before .before .before .before .before .before .before .before .before .before .before .before .before .before .before .before .release .result) (c .before .before .before .before .before .before .before .before .before .before .before .before .before .before .before .before .before .before .before .before .before .before .before .args .regs .now))) (later (l .lag) (joined (l .t) (l .regs))) (c .before .before .before .before .before .before .before .before .before .before .before .before .before .before .before .before .before .before .before .before .before .before .before .args .memory .now) (c .before .before .before .before .before .before .before .before .before .before .before .before .before .before .before .before .before .before .before .before .before .before .before .args .pages .now) (c .before .before .before .before .before .before .before .before .before .before .before .before .before .before .before .before .before .before .before .before .before .before .before .args .ports .now) (l .memory) (l .pages) (l .ports) (l .inv .12) (c .before .before .before .before .before .before .before .before .before .before .instruct .result .lagging) (c .before .before .before .before .before .before .before .before .before .before .instruct .result .core) _ _ _ _ (c .before .before .before .before .before .before .before .before .before .before .instruct .ensures .0) (later (c .before .before .before .before .before .before .before .before .before .before .before .before .before .before .before .before .before .before .before .before .before .before .before .args .from) (joined (c .before .before .before .before .before .before .before .before .before .before .before .before .before .before .before .before .before .before .before .before .before .before .before .args .core) (c .before .before .before .before .before .before .before .before .before .before .before .before .before .before .before .before .before .before .before .before .before .before .before .args .regs .now))) (later-released _ _ (c .before .before .before .before .before .before .before .before .before .before .before .before .before .before .before .before .release .ensures) (c .before .before .before .before .before .before .before .before .before .before .before .before .before .before .before .before .before .before .before .before .before .before .before .args .from) (c .before .before .before .before .before .before .before .before .before .before .before .before .before .before .before .before .before .before .before .before .before .before .before .args .regs .now)) (rw (chosen-later (c .before .before .before .before .before .before .before .before .before .before .before .before .before .before .before .before .before .before .before .before .before .before .before .args .from) (joined (c .before .before .before .before .before .before .before .before .before .before .before .before .before .before .before .before .before .before .before .before .before .before .before .args .core) (c .before .before .before .before .before .before .before .before .before .before .before .before .before .before .before .before .before .before .before .before .before .before .before .args .regs .now))) (c .before .before .before .before .before .before .before .before .before .before .before .before .before .before .before .before .before .before .before .before .before .before .before .pre .5)) })
 
 ended-requires-2 : tie.Need-ended-requires-2 Inv-loop μ-loop
 ended-requires-2 c κs = omega arith
@@ -73,7 +72,7 @@ same-length-6 : tie.Need-same-length-6 Inv-loop μ-loop
 same-length-6 c = let l = c .before .before .before .before .before .before .before .before .before .before .before .before .before .before .before .before .loop in c .before .before .before .before .before .before .before .before .before .before .before .instruct .kept .1 .1 .1 .1 .1 .1 .1 .0 ∙ l .inv .2
 
 returns-2 : tie.Need-returns-2 Inv-loop μ-loop
-returns-2 c = let l = c .before .before .before .before .before .before .before .before .before .before .before .before .before .before .before .before .loop in rw (c .ended2 .ensures) (record { onward = omega (arith, l .inv .3); within = omega (arith, l .inv .4, l .inv .5); time-kept = λ h. same-onward _ _ _ (time-released _ _ (c .before .before .before .before .before .before .before .before .before .before .before .before .before .before .before .before .before .release .ensures)) (same-onward _ _ _ (l .inv .11) (c .before .before .before .before .before .before .before .before .before .before .before .instruct .ensures .1 .time-kept h)); made = row-made mil1750 (c .before .before .before .before .before .before .before .before .before .before .before .before .before .before .before .before .before .before .before .before .before .before .before .before .args .from) (l .lag) (l .inv .3) (later (c .before .before .before .before .before .before .before .before .before .before .before .before .before .before .before .before .before .before .before .before .before .before .before .before .args .from) (joined (c .before .before .before .before .before .before .before .before .before .before .before .before .before .before .before .before .before .release .result) (c .before .before .before .before .before .before .before .before .before .before .before .before .before .before .before .before .before .before .before .before .before .before .before .before .args .regs .now))) (later (l .lag) (joined (l .t) (l .regs))) (c .before .before .before .before .before .before .before .before .before .before .before .before .before .before .before .before .before .before .before .before .before .before .before .before .args .memory .now) (c .before .before .before .before .before .before .before .before .before .before .before .before .before .before .before .before .before .before .before .before .before .before .before .before .args .pages .now) (c .before .before .before .before .before .before .before .before .before .before .before .before .before .before .before .before .before .before .before .before .before .before .before .before .args .ports .now) (l .memory) (l .pages) (l .ports) (l .inv .12) (c .before .before .before .before .before .before .before .before .before .before .before .instruct .result .lagging) (c .before .before .before .before .before .before .before .before .before .before .before .instruct .result .core) _ _ _ _ (c .before .before .before .before .before .before .before .before .before .before .before .instruct .ensures .0) (later (c .before .before .before .before .before .before .before .before .before .before .before .before .before .before .before .before .before .before .before .before .before .before .before .before .args .from) (joined (c .before .before .before .before .before .before .before .before .before .before .before .before .before .before .before .before .before .before .before .before .before .before .before .before .args .core) (c .before .before .before .before .before .before .before .before .before .before .before .before .before .before .before .before .before .before .before .before .before .before .before .before .args .regs .now))) (later-released _ _ (c .before .before .before .before .before .before .before .before .before .before .before .before .before .before .before .before .before .release .ensures) (c .before .before .before .before .before .before .before .before .before .before .before .before .before .before .before .before .before .before .before .before .before .before .before .before .args .from) (c .before .before .before .before .before .before .before .before .before .before .before .before .before .before .before .before .before .before .before .before .before .before .before .before .args .regs .now)) (rw (chosen-later (c .before .before .before .before .before .before .before .before .before .before .before .before .before .before .before .before .before .before .before .before .before .before .before .before .args .from) (joined (c .before .before .before .before .before .before .before .before .before .before .before .before .before .before .before .before .before .before .before .before .before .before .before .before .args .core) (c .before .before .before .before .before .before .before .before .before .before .before .before .before .before .before .before .before .before .before .before .before .before .before .before .args .regs .now))) (c .before .before .before .before .before .before .before .before .before .before .before .before .before .before .before .before .before .before .before .before .before .before .before .before .pre .6)) })
+returns-2 c = let l = c .before .before .before .before .before .before .before .before .before .before .before .before .before .before .before .before .loop in rw (c .ended2 .ensures) (record { onward = omega (arith, l .inv .3); within = omega (arith, l .inv .4, l .inv .5); time-kept = λ h. same-onward _ _ _ (time-released _ _ (c .before .before .before .before .before .before .before .before .before .before .before .before .before .before .before .before .before .release .ensures)) (same-onward _ _ _ (l .inv .11) (c .before .before .before .before .before .before .before .before .before .before .before .instruct .ensures .1 .time-kept h)); made = row-made mil1750 (c .before .before .before .before .before .before .before .before .before .before .before .before .before .before .before .before .before .before .before .before .before .before .before .before .args .from) (l .lag) (l .inv .3) (later (c .before .before .before .before .before .before .before .before .before .before .before .before .before .before .before .before .before .before .before .before .before .before .before .before .args .from) (joined (c .before .before .before .before .before .before .before .before .before .before .before .before .before .before .before .before .before .release .result) (c .before .before .before .before .before .before .before .before .before .before .before .before .before .before .before .before .before .before .before .before .before .before .before .before .args .regs .now))) (later (l .lag) (joined (l .t) (l .regs))) (c .before .before .before .before .before .before .before .before .before .before .before .before .before .before .before .before .before .before .before .before .before .before .before .before .args .memory .now) (c .before .before .before .before .before .before .before .before .before .before .before .before .before .before .before .before .before .before .before .before .before .before .before .before .args .pages .now) (c .before .before .before .before .before .before .before .before .before .before .before .before .before .before .before .before .before .before .before .before .before .before .before .before .args .ports .now) (l .memory) (l .pages) (l .ports) (l .inv .12) (c .before .before .before .before .before .before .before .before .before .before .before .instruct .result .lagging) (c .before .before .before .before .before .before .before .before .before .before .before .instruct .result .core) _ _ _ _ (c .before .before .before .before .before .before .before .before .before .before .before .instruct .ensures .0) (later (c .before .before .before .before .before .before .before .before .before .before .before .before .before .before .before .before .before .before .before .before .before .before .before .before .args .from) (joined (c .before .before .before .before .before .before .before .before .before .before .before .before .before .before .before .before .before .before .before .before .before .before .before .before .args .core) (c .before .before .before .before .before .before .before .before .before .before .before .before .before .before .before .before .before .before .before .before .before .before .before .before .args .regs .now))) (later-released _ _ (c .before .before .before .before .before .before .before .before .before .before .before .before .before .before .before .before .before .release .ensures) (c .before .before .before .before .before .before .before .before .before .before .before .before .before .before .before .before .before .before .before .before .before .before .before .before .args .from) (c .before .before .before .before .before .before .before .before .before .before .before .before .before .before .before .before .before .before .before .before .before .before .before .before .args .regs .now)) (rw (chosen-later (c .before .before .before .before .before .before .before .before .before .before .before .before .before .before .before .before .before .before .before .before .before .before .before .before .args .from) (joined (c .before .before .before .before .before .before .before .before .before .before .before .before .before .before .before .before .before .before .before .before .before .before .before .before .args .core) (c .before .before .before .before .before .before .before .before .before .before .before .before .before .before .before .before .before .before .before .before .before .before .before .before .args .regs .now))) (c .before .before .before .before .before .before .before .before .before .before .before .before .before .before .before .before .before .before .before .before .before .before .before .before .pre .5)) })
 
 loop-less : tie.Need-loop-less Inv-loop μ-loop
 loop-less c = omega (arith, c .before .before .before .before .before .before .before .before .before .before .before .before .before .before .before .loop .inv .4)

@@ -1,7 +1,7 @@
--- Written by tools/prove.py from answers/accumulate.py: answer c6704b45b2b6, proof d0a29257ec35.
+-- Written by tools/prove.py from answers/accumulate.py: answer 6ed6a70eb1f2, proof 6e1f1c5bf949.
 -- `accumulate::single::into_single` meets its contract. Assumes nothing.
 use Rattle.accumulate.proofs.EndLaws.{words-first, read-done, read-refused, single-after}
-use Rattle.accumulate.proofs.WayLaws.{way-user, way-reads, way-writes, singled, does-single}
+use Rattle.accumulate.proofs.WayLaws.{way-user, way-reads, way-writes, way-count, singled, does-single}
 use Rattle.accumulate.proofs.single.into_single.Statement.{statement}
 use Rattle.accumulate.proofs.single.into_single.Tie as tie
 use Rattle.fixed.specs.Fixed.{single}
@@ -16,16 +16,19 @@ use borrow.Author.Needs.{needs}
 use mathlib.Core.Path.{_≡_, refl, ap, _∙_}
 use native.Mathlib.Omega.{arith}
 
+read-operand-requires : tie.Need-read-operand-requires
+read-operand-requires c κs = (c .before .before .pre .0, c .before .before .pre .3, c .before .before .pre .5, omega (arith, (c .before .before .pre .4)))
+
 returns : tie.Need-returns
 unfolding atOperand contextOf single
-returns c = let o : c .before .before .before .before .before .combine16 .result ≡ single (singled (c .before .before .before .before .before .before .before .before .before .before .before .before .before .before .before .before .args .n) (contextOf (joined (c .before .before .before .before .before .before .before .before .before .before .before .before .before .before .before .before .args .core) (c .before .before .before .before .before .before .before .before .before .before .before .before .before .before .before .before .args .regs .now))) (c .before .before .before .before .before .before .before .before .before .before .before .before .before .read-operand .result .x)) = rw (← c .before .before .before .before .before .before .before .before .before .before .before .accumulator-of .ensures .0, ← c .before .before .before .before .before .before .before .before .get .ensures, ← c .before .before .before .before .before .before .operand-of .ensures) (c .before .before .before .before .before .combine16 .ensures) in let w = words-first (joined (c .before .before .before .before .before .before .before .before .before .before .before .before .before .before .before .before .args .core) (c .before .before .before .before .before .before .before .before .before .before .before .before .before .before .before .before .args .regs .now)) (c .before .before .before .before .before .before .before .before .before .before .before .before .before .before .before .before .args .memory .now) (c .before .before .before .before .before .before .before .before .before .before .before .before .before .before .before .before .args .pages .now) (c .before .before .before .before .before .before .before .before .before .before .before .before .before .before .before .before .args .n) (way-user (c .before .before .before .before .before .before .before .before .before .before .before .before .before .before .before .before .args .n) 1 (c .before .before .before .before .before .before .before .before .before .before .before .before .before .before .before .before .pre .4) (omega arith)) _ _ 1 (c .before .before .before .before .before .before .before .before .before .before .before .before .before .before .before .before .pre .1) (c .before .before .before .before .before .before .before .before .before .before .before .before .before .before .before .before .pre .2) (way-reads (c .before .before .before .before .before .before .before .before .before .before .before .before .before .before .before .before .args .n) 1 1 0 (c .before .before .before .before .before .before .before .before .before .before .before .before .before .before .before .before .pre .4) (omega arith) refl refl refl refl refl (c .before .before .before .before .before .before .before .before .before .before .before .before .before .before .before .before .args .regs .now)) (way-writes (c .before .before .before .before .before .before .before .before .before .before .before .before .before .before .before .before .args .n) 1 1 0 (c .before .before .before .before .before .before .before .before .before .before .before .before .before .before .before .before .pre .4) (omega arith) refl refl refl refl refl (c .before .before .before .before .before .before .before .before .before .before .before .before .before .before .before .before .args .regs .now)) _ (c .before .before .before .before .before .before .before .before .before .before .before .before .before .read-operand .ensures) (c .before .before .before .before .before .before .before .before .before .before .before .before .if1 .taken) in read-done (joined (c .before .before .before .before .before .before .before .before .before .before .before .before .before .before .before .before .args .core) (c .before .before .before .before .before .before .before .before .before .before .before .before .before .before .before .before .args .regs .now)) (c .before .before .before .before .before .before .before .before .before .before .before .before .before .before .before .before .args .memory .now) (c .before .before .before .before .before .before .before .before .before .before .before .before .before .before .before .before .args .pages .now) (c .before .before .before .before .before .before .before .before .before .before .before .before .before .before .before .before .args .n) (way-user (c .before .before .before .before .before .before .before .before .before .before .before .before .before .before .before .before .args .n) 1 (c .before .before .before .before .before .before .before .before .before .before .before .before .before .before .before .before .pre .4) (omega arith)) _ _ 1 (c .before .before .before .before .before .before .before .before .before .before .before .before .before .before .before .before .pre .1) (c .before .before .before .before .before .before .before .before .before .before .before .before .before .before .before .before .pre .2) (way-reads (c .before .before .before .before .before .before .before .before .before .before .before .before .before .before .before .before .args .n) 1 1 0 (c .before .before .before .before .before .before .before .before .before .before .before .before .before .before .before .before .pre .4) (omega arith) refl refl refl refl refl (c .before .before .before .before .before .before .before .before .before .before .before .before .before .before .before .before .args .regs .now)) (way-writes (c .before .before .before .before .before .before .before .before .before .before .before .before .before .before .before .before .args .n) 1 1 0 (c .before .before .before .before .before .before .before .before .before .before .before .before .before .before .before .before .pre .4) (omega arith) refl refl refl refl refl (c .before .before .before .before .before .before .before .before .before .before .before .before .before .before .before .before .args .regs .now)) _ (c .before .before .before .before .before .before .before .before .before .before .before .before .before .read-operand .ensures) (singleOutcome (contextOf (joined (c .before .before .before .before .before .before .before .before .before .before .before .before .before .before .before .before .args .core) (c .before .before .before .before .before .before .before .before .before .before .before .before .before .before .before .before .args .regs .now))) (c .before .before .before .before .before .before .before .before .before .before .before .before .before .before .before .before .args .n) (accumulator (c .before .before .before .before .before .before .before .before .before .before .before .before .before .before .before .before .args .n)) (singled (c .before .before .before .before .before .before .before .before .before .before .before .before .before .before .before .before .args .n) (contextOf (joined (c .before .before .before .before .before .before .before .before .before .before .before .before .before .before .before .before .args .core) (c .before .before .before .before .before .before .before .before .before .before .before .before .before .before .before .before .args .regs .now))) (c .before .before .before .before .before .before .before .before .before .before .before .before .before .read-operand .result .x))) _ _ _ (c .before .before .before .before .before .before .before .before .before .before .before .before .if1 .taken) (does-single (c .before .before .before .before .before .before .before .before .before .before .before .before .before .before .before .before .args .n) (c .before .before .before .before .before .before .before .before .before .before .before .before .before .before .before .before .pre .4) _ _ _ (w .first-is)) (c .done .ensures .0) (single-after (c .before .before .before .before .before .before .before .before .before .before .before .before .before .before .before .before .args .core) (c .done .result .core) (c .before .before .before .before .before .before .before .before .before .before .before .before .before .before .before .before .args .regs .now) (c .before .before .before .before .before .before .before .before .before .before .before .before .before .before .before .before .args .n) (accumulator (c .before .before .before .before .before .before .before .before .before .before .before .before .before .before .before .before .args .n)) _ _ _ (singled (c .before .before .before .before .before .before .before .before .before .before .before .before .before .before .before .before .args .n) (contextOf (joined (c .before .before .before .before .before .before .before .before .before .before .before .before .before .before .before .before .args .core) (c .before .before .before .before .before .before .before .before .before .before .before .before .before .before .before .before .args .regs .now))) (c .before .before .before .before .before .before .before .before .before .before .before .before .before .read-operand .result .x)) (c .done .ensures .1) (c .before .following .ensures) (ap (λ r. r .cs) o) (c .before .before .fixed-overflow .ensures ∙ ap (λ r. fixedOverflow (r .overflow)) o) _ (c .before .before .before .put .ensures ∙ ap (λ k. withRegister (c .before .before .before .before .before .before .before .before .before .before .before .before .before .before .before .before .args .regs .now) k (c .before .before .before .before .before .combine16 .result .value)) (c .before .before .before .before .before .before .before .before .before .before .before .accumulator-of .ensures .0) ∙ ap (λ r. withRegister (c .before .before .before .before .before .before .before .before .before .before .before .before .before .before .before .before .args .regs .now) (accumulator (c .before .before .before .before .before .before .before .before .before .before .before .before .before .before .before .before .args .n)) (r .value)) o))
+returns c = let o : c .before .before .before .before .before .combine16 .result ≡ single (singled (c .before .before .before .before .before .before .before .before .before .before .before .before .before .before .before .before .args .n) (contextOf (joined (c .before .before .before .before .before .before .before .before .before .before .before .before .before .before .before .before .args .core) (c .before .before .before .before .before .before .before .before .before .before .before .before .before .before .before .before .args .regs .now))) (c .before .before .before .before .before .before .before .before .before .before .before .before .before .read-operand .result .x)) = rw (← c .before .before .before .before .before .before .before .before .before .before .before .accumulator-of .ensures .0, ← c .before .before .before .before .before .before .before .before .get .ensures, ← c .before .before .before .before .before .before .operand-of .ensures) (c .before .before .before .before .before .combine16 .ensures) in let w = words-first (joined (c .before .before .before .before .before .before .before .before .before .before .before .before .before .before .before .before .args .core) (c .before .before .before .before .before .before .before .before .before .before .before .before .before .before .before .before .args .regs .now)) (c .before .before .before .before .before .before .before .before .before .before .before .before .before .before .before .before .args .memory .now) (c .before .before .before .before .before .before .before .before .before .before .before .before .before .before .before .before .args .pages .now) (c .before .before .before .before .before .before .before .before .before .before .before .before .before .before .before .before .args .n) (way-user (c .before .before .before .before .before .before .before .before .before .before .before .before .before .before .before .before .args .n) 1 (c .before .before .before .before .before .before .before .before .before .before .before .before .before .before .before .before .pre .4) (omega arith)) _ _ 1 (c .before .before .before .before .before .before .before .before .before .before .before .before .before .before .before .before .pre .1) (c .before .before .before .before .before .before .before .before .before .before .before .before .before .before .before .before .pre .2) (way-reads (c .before .before .before .before .before .before .before .before .before .before .before .before .before .before .before .before .args .n) 1 1 0 (c .before .before .before .before .before .before .before .before .before .before .before .before .before .before .before .before .pre .4) (omega arith) refl refl refl refl refl (c .before .before .before .before .before .before .before .before .before .before .before .before .before .before .before .before .args .regs .now)) (way-writes (c .before .before .before .before .before .before .before .before .before .before .before .before .before .before .before .before .args .n) 1 1 0 (c .before .before .before .before .before .before .before .before .before .before .before .before .before .before .before .before .pre .4) (omega arith) refl refl refl refl refl (c .before .before .before .before .before .before .before .before .before .before .before .before .before .before .before .before .args .regs .now)) _ (c .before .before .before .before .before .before .before .before .before .before .before .before .before .read-operand .ensures 1 (way-count (c .before .before .before .before .before .before .before .before .before .before .before .before .before .before .before .before .args .n) 1 (c .before .before .before .before .before .before .before .before .before .before .before .before .before .before .before .before .pre .4) (omega arith) 1 refl)) (c .before .before .before .before .before .before .before .before .before .before .before .before .if1 .taken) in read-done (joined (c .before .before .before .before .before .before .before .before .before .before .before .before .before .before .before .before .args .core) (c .before .before .before .before .before .before .before .before .before .before .before .before .before .before .before .before .args .regs .now)) (c .before .before .before .before .before .before .before .before .before .before .before .before .before .before .before .before .args .memory .now) (c .before .before .before .before .before .before .before .before .before .before .before .before .before .before .before .before .args .pages .now) (c .before .before .before .before .before .before .before .before .before .before .before .before .before .before .before .before .args .n) (way-user (c .before .before .before .before .before .before .before .before .before .before .before .before .before .before .before .before .args .n) 1 (c .before .before .before .before .before .before .before .before .before .before .before .before .before .before .before .before .pre .4) (omega arith)) _ _ 1 (c .before .before .before .before .before .before .before .before .before .before .before .before .before .before .before .before .pre .1) (c .before .before .before .before .before .before .before .before .before .before .before .before .before .before .before .before .pre .2) (way-reads (c .before .before .before .before .before .before .before .before .before .before .before .before .before .before .before .before .args .n) 1 1 0 (c .before .before .before .before .before .before .before .before .before .before .before .before .before .before .before .before .pre .4) (omega arith) refl refl refl refl refl (c .before .before .before .before .before .before .before .before .before .before .before .before .before .before .before .before .args .regs .now)) (way-writes (c .before .before .before .before .before .before .before .before .before .before .before .before .before .before .before .before .args .n) 1 1 0 (c .before .before .before .before .before .before .before .before .before .before .before .before .before .before .before .before .pre .4) (omega arith) refl refl refl refl refl (c .before .before .before .before .before .before .before .before .before .before .before .before .before .before .before .before .args .regs .now)) _ (c .before .before .before .before .before .before .before .before .before .before .before .before .before .read-operand .ensures 1 (way-count (c .before .before .before .before .before .before .before .before .before .before .before .before .before .before .before .before .args .n) 1 (c .before .before .before .before .before .before .before .before .before .before .before .before .before .before .before .before .pre .4) (omega arith) 1 refl)) (singleOutcome (contextOf (joined (c .before .before .before .before .before .before .before .before .before .before .before .before .before .before .before .before .args .core) (c .before .before .before .before .before .before .before .before .before .before .before .before .before .before .before .before .args .regs .now))) (c .before .before .before .before .before .before .before .before .before .before .before .before .before .before .before .before .args .n) (accumulator (c .before .before .before .before .before .before .before .before .before .before .before .before .before .before .before .before .args .n)) (singled (c .before .before .before .before .before .before .before .before .before .before .before .before .before .before .before .before .args .n) (contextOf (joined (c .before .before .before .before .before .before .before .before .before .before .before .before .before .before .before .before .args .core) (c .before .before .before .before .before .before .before .before .before .before .before .before .before .before .before .before .args .regs .now))) (c .before .before .before .before .before .before .before .before .before .before .before .before .before .read-operand .result .x))) _ _ _ (c .before .before .before .before .before .before .before .before .before .before .before .before .if1 .taken) (does-single (c .before .before .before .before .before .before .before .before .before .before .before .before .before .before .before .before .args .n) (c .before .before .before .before .before .before .before .before .before .before .before .before .before .before .before .before .pre .4) _ _ _ (w .first-is)) (c .done .ensures .0) (single-after (c .before .before .before .before .before .before .before .before .before .before .before .before .before .before .before .before .args .core) (c .done .result .core) (c .before .before .before .before .before .before .before .before .before .before .before .before .before .before .before .before .args .regs .now) (c .before .before .before .before .before .before .before .before .before .before .before .before .before .before .before .before .args .n) (accumulator (c .before .before .before .before .before .before .before .before .before .before .before .before .before .before .before .before .args .n)) _ _ _ (singled (c .before .before .before .before .before .before .before .before .before .before .before .before .before .before .before .before .args .n) (contextOf (joined (c .before .before .before .before .before .before .before .before .before .before .before .before .before .before .before .before .args .core) (c .before .before .before .before .before .before .before .before .before .before .before .before .before .before .before .before .args .regs .now))) (c .before .before .before .before .before .before .before .before .before .before .before .before .before .read-operand .result .x)) (c .done .ensures .1) (c .before .following .ensures) (ap (λ r. r .cs) o) (c .before .before .fixed-overflow .ensures ∙ ap (λ r. fixedOverflow (r .overflow)) o) _ (c .before .before .before .put .ensures ∙ ap (λ k. withRegister (c .before .before .before .before .before .before .before .before .before .before .before .before .before .before .before .before .args .regs .now) k (c .before .before .before .before .before .combine16 .result .value)) (c .before .before .before .before .before .before .before .before .before .before .before .accumulator-of .ensures .0) ∙ ap (λ r. withRegister (c .before .before .before .before .before .before .before .before .before .before .before .before .before .before .before .before .args .regs .now) (accumulator (c .before .before .before .before .before .before .before .before .before .before .before .before .before .before .before .before .args .n)) (r .value)) o))
 
 returns-2 : tie.Need-returns-2
 unfolding atOperand contextOf single
-returns-2 c = read-refused (joined (c .before .before .before .before .before .args .core) (c .before .before .before .before .before .args .regs .now)) (c .before .before .before .before .before .args .memory .now) (c .before .before .before .before .before .args .pages .now) (c .before .before .before .before .before .args .n) (way-user (c .before .before .before .before .before .args .n) 1 (c .before .before .before .before .before .pre .4) (omega arith)) _ _ 1 (c .before .before .before .before .before .pre .1) (c .before .before .before .before .before .pre .2) (way-reads (c .before .before .before .before .before .args .n) 1 1 0 (c .before .before .before .before .before .pre .4) (omega arith) refl refl refl refl refl (c .before .before .before .before .before .args .regs .now)) (way-writes (c .before .before .before .before .before .args .n) 1 1 0 (c .before .before .before .before .before .pre .4) (omega arith) refl refl refl refl refl (c .before .before .before .before .before .args .regs .now)) _ (c .before .before .read-operand .ensures) _ _ _ (c .before .if1 .left) (c .refused .ensures .0) (c .refused .ensures .1) refl
+returns-2 c = read-refused (joined (c .before .before .before .before .before .args .core) (c .before .before .before .before .before .args .regs .now)) (c .before .before .before .before .before .args .memory .now) (c .before .before .before .before .before .args .pages .now) (c .before .before .before .before .before .args .n) (way-user (c .before .before .before .before .before .args .n) 1 (c .before .before .before .before .before .pre .4) (omega arith)) _ _ 1 (c .before .before .before .before .before .pre .1) (c .before .before .before .before .before .pre .2) (way-reads (c .before .before .before .before .before .args .n) 1 1 0 (c .before .before .before .before .before .pre .4) (omega arith) refl refl refl refl refl (c .before .before .before .before .before .args .regs .now)) (way-writes (c .before .before .before .before .before .args .n) 1 1 0 (c .before .before .before .before .before .pre .4) (omega arith) refl refl refl refl refl (c .before .before .before .before .before .args .regs .now)) _ (c .before .before .read-operand .ensures 1 (way-count (c .before .before .before .before .before .args .n) 1 (c .before .before .before .before .before .pre .4) (omega arith) 1 refl)) _ _ _ (c .before .if1 .left) (c .refused .ensures .0) (c .refused .ensures .1) refl
 
 pub into-single-spec : {M : Type 1} → statement M
 into-single-spec =
     tie.close
-    (tie.spec (λ c κs. search needs) (λ c κs. search needs) (λ c κs. search needs) (λ c κs. search needs) (λ c κs. search needs) (λ c κs. search needs)
+    (tie.spec read-operand-requires (λ c κs. search needs) (λ c κs. search needs) (λ c κs. search needs) (λ c κs. search needs) (λ c κs. search needs)
     (λ c κs. search needs) (λ c κs. search needs) (λ c κs. search needs) returns (λ c κs. search needs) returns-2)

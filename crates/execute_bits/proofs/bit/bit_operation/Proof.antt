@@ -1,4 +1,4 @@
--- Written by tools/prove.py from answers/execute_bits.py: answer d2eb22d37617, proof ae562ccf1abe.
+-- Written by tools/prove.py from answers/execute_bits.py: answer 38c09eb65aca, proof 8237914803a8.
 -- `execute_bits::bit::bit_operation` meets its contract. Assumes nothing.
 use Prim.Native.Nat.{_%_}
 use Rattle.choice.proofs.SelectLaws.{otherwise}
@@ -39,7 +39,7 @@ returns-7 c = rw (c .before .before .before .before .match .keys7, ← c .before
 
 returns-8 : tie.Need-returns-8
 unfolding bitOperation
-returns-8 c = c .nothing .ensures _ ∙ sym (otherwise (c .before .before .before .before .before .args .n .form % 256) ((3, _) ∷ (4, _) ∷ (5, _) ∷ (6, _) ∷ (7, _) ∷ (8, _) ∷ (9, _) ∷ []) _ (c .before .match .rest))
+returns-8 c = c .nothing .ensures _ ∙ sym (otherwise (c .before .before .before .before .before .args .n .form % 256) ((3, _) ∷ (4, _) ∷ (5, _) ∷ (6, _) ∷ (7, _) ∷ (8, _) ∷ (9, _) ∷ []) _ (((((((tt, c .before .match .rest .0 .0 .0 .0 .0 .0 .1), c .before .match .rest .0 .0 .0 .0 .0 .1), c .before .match .rest .0 .0 .0 .0 .1), c .before .match .rest .0 .0 .0 .1), c .before .match .rest .0 .0 .1), c .before .match .rest .0 .1), c .before .match .rest .1))
 
 pub bit-operation-spec : {M : Type 1} → statement M
 bit-operation-spec =

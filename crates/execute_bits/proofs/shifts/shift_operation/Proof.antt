@@ -1,4 +1,4 @@
--- Written by tools/prove.py from answers/execute_bits.py: answer 754e258e71a5, proof fe216cbd6d1c.
+-- Written by tools/prove.py from answers/execute_bits.py: answer 2eb15c7dd76a, proof bb1d67a5c929.
 -- `execute_bits::shifts::shift_operation` meets its contract. Assumes nothing.
 use Prim.Native.Nat.{_%_}
 use Rattle.choice.proofs.SelectLaws.{otherwise}
@@ -67,7 +67,7 @@ returns-14 c = rw (c .before .before .before .match .keys14, ← c .before .befo
 
 returns-15 : tie.Need-returns-15
 unfolding shiftOperation
-returns-15 c = c .nothing .ensures _ ∙ sym (otherwise (c .before .before .before .before .before .before .args .n .form % 256) ((10, _) ∷ (11, _) ∷ (12, _) ∷ (13, _) ∷ (14, _) ∷ (15, _) ∷ (16, _) ∷ (17, _) ∷ (18, _) ∷ (19, _) ∷ (20, _) ∷ (21, _) ∷ (22, _) ∷ (23, _) ∷ []) _ (c .before .match .rest))
+returns-15 c = c .nothing .ensures _ ∙ sym (otherwise (c .before .before .before .before .before .before .args .n .form % 256) ((10, _) ∷ (11, _) ∷ (12, _) ∷ (13, _) ∷ (14, _) ∷ (15, _) ∷ (16, _) ∷ (17, _) ∷ (18, _) ∷ (19, _) ∷ (20, _) ∷ (21, _) ∷ (22, _) ∷ (23, _) ∷ []) _ ((((((((((((((tt, c .before .match .rest .0 .0 .0 .0 .0 .0 .0 .0 .0 .0 .0 .0 .0 .1), c .before .match .rest .0 .0 .0 .0 .0 .0 .0 .0 .0 .0 .0 .0 .1), c .before .match .rest .0 .0 .0 .0 .0 .0 .0 .0 .0 .0 .0 .1), c .before .match .rest .0 .0 .0 .0 .0 .0 .0 .0 .0 .0 .1), c .before .match .rest .0 .0 .0 .0 .0 .0 .0 .0 .0 .1), c .before .match .rest .0 .0 .0 .0 .0 .0 .0 .0 .1), c .before .match .rest .0 .0 .0 .0 .0 .0 .0 .1), c .before .match .rest .0 .0 .0 .0 .0 .0 .1), c .before .match .rest .0 .0 .0 .0 .0 .1), c .before .match .rest .0 .0 .0 .0 .1), c .before .match .rest .0 .0 .0 .1), c .before .match .rest .0 .0 .1), c .before .match .rest .0 .1), c .before .match .rest .1))
 
 pub shift-operation-spec : {M : Type 1} → statement M
 shift-operation-spec =

@@ -1,4 +1,4 @@
--- Written by tools/prove.py from answers/execute_integers.py: answer 7b958dfdd67e, proof b9be626fee73.
+-- Written by tools/prove.py from answers/execute_integers.py: answer 9c6d27a8cc34, proof e3e21974eaec.
 -- `execute_integers::outcomes::combine32` meets its contract. Assumes nothing.
 use Rattle.execute_integers.proofs.outcomes.combine32.Statement.{statement}
 use Rattle.execute_integers.proofs.outcomes.combine32.Tie as tie
@@ -11,22 +11,13 @@ pair-at-requires c κs = c .pre
 
 returns : tie.Need-returns
 unfolding arithmetic
-returns c = rw (c .before .match .keys1, ← c .before .before .before .pair-at .ensures, ← c .before .before .double-operand .ensures) (c .add32 .ensures)
+returns c = rw (c .before .match .keys1, ← c .before .before .before .pair-at .ensures, ← c .before .before .double-operand .ensures) (c .multiply32 .ensures)
 
 returns-2 : tie.Need-returns-2
 unfolding arithmetic
-returns-2 c = rw (c .before .match .keys2, ← c .before .before .before .pair-at .ensures, ← c .before .before .double-operand .ensures) (c .sub32 .ensures)
-
-returns-3 : tie.Need-returns-3
-unfolding arithmetic
-returns-3 c = rw (c .before .match .keys3, ← c .before .before .before .pair-at .ensures, ← c .before .before .double-operand .ensures) (c .multiply32 .ensures)
-
-returns-4 : tie.Need-returns-4
-unfolding arithmetic
-returns-4 c = rw (ne-eqb _ _ (c .before .match .rest .0 .0 .1), ne-eqb _ _ (c .before .match .rest .0 .1), ne-eqb _ _ (c .before .match .rest .1), ← c .before .before .before .pair-at .ensures, ← c .before .before .double-operand .ensures) (c .divide32 .ensures)
+returns-2 c = rw (ne-eqb _ _ (c .before .match .rest .1), ← c .before .before .before .pair-at .ensures, ← c .before .before .double-operand .ensures) (c .divide32 .ensures)
 
 pub combine32-spec : {M : Type 1} → statement M
 combine32-spec =
     tie.close
-    (tie.spec pair-at-requires (λ c κs. search needs) (λ c κs. search needs) (λ c κs. search needs) (λ c κs. search needs) (λ c κs. search needs)
-    returns returns-2 returns-3 returns-4)
+    (tie.spec pair-at-requires (λ c κs. search needs) (λ c κs. search needs) (λ c κs. search needs) returns returns-2)

@@ -1,0 +1,22 @@
+-- Written by tools/prove.py from answers/needs.py: answer 270f14ef4057, proof f30bcec1027e.
+-- `needs::indexed` meets its contract. Assumes nothing.
+use Prim.Native.Nat.{ℕ}
+use Rattle.choice.proofs.TableLaws.{tabled}
+use Rattle.decode.specs.Decode.{lookup}
+use Rattle.decode.specs.Pages.{pages}
+use Rattle.isa.specs.Accesses.{wordsMoved, wordsOfInteger, wordsOfFloat, wordsRead, wordsWritten}
+use Rattle.isa.specs.Addressing.{inMemory}
+use Rattle.needs.proofs.indexed.Statement.{statement}
+use Rattle.needs.proofs.indexed.Tie as tie
+use Rattle.needs.specs.Needs.{numberOf, ruleOf, countsOf, needOf, exceptions, wayOf}
+use borrow.Author.Needs.{needs}
+
+array-read-result : tie.Need-array-read-result
+array-read-result c = search needs
+
+returns : tie.Need-returns
+unfolding pages numberOf ruleOf countsOf needOf exceptions wayOf wordsRead wordsMoved wordsOfFloat wordsOfInteger wordsWritten inMemory
+returns c = tabled (λ (k : ℕ). numberOf (lookup 0x40 k 0)) 16 (c .args .upper) (array-read-result c)
+
+pub indexed-spec : {M : Type 1} → statement M
+indexed-spec = tie.close (tie.spec (λ c. search needs) array-read-result returns)
