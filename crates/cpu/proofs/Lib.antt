@@ -1,3 +1,3 @@
--- The laws of the questions before a run, and property 3 of this machine.
+-- The laws of the questions before a run, and property 3 of what calls of `run` return and leave.
 pub mod AskLaws
 pub mod Isolated

@@ -1,12 +1,11 @@
 // Runs (Scope, "Questions at the door"): the questions, then exactly as many steps as the budget says.
 ghost use mathlib.Core.Path.{_≡_};
 ghost use lib.ListN.{length};
-ghost use Rattle.decode.specs.Decode.{forms};
 ghost use Rattle.machine.specs.State.{joined};
 ghost use Rattle.machine.specs.Machine.{Became, machine};
 ghost use Rattle.machine.specs.Runs.{numberOf, wholePages, admission, answerOf, steps, left};
 ghost use Rattle.isa.specs.Mil1750.{mil1750};
-ghost use Rattle.needs.specs.Needs.{allNeeds};
+ghost use Rattle.needs.specs.Needs.{numbers};
 use machine::Answer;
 use machine::Core;
 use machine::State;
@@ -19,18 +18,17 @@ fn run_steps(
     memory: &mut [u16],
     pages: &mut [u16],
     ports: &mut [u16],
-    table: &[u16; 256],
-    needs: &[u16; 256],
+    table: &[u32; 256],
     n: u32,
 ) -> Core
-    requires { ⌜ (length (now pages) ≡ 512) × (length (now ports) ≡ 1024) × (now table ≡ forms) × (now needs ≡ allNeeds) ⌝ }
+    requires { ⌜ (length (now pages) ≡ 512) × (length (now ports) ≡ 1024) × (now table ≡ numbers) ⌝ }
     ensures { λ r. ⌜ Became (steps mil1750 n (machine (joined core (now (regs .entry))) (now (memory .entry)) (now (pages .entry)) (now (ports .entry))))
         (joined r (now (regs .exit))) (now (memory .exit)) (now (pages .exit)) (now (ports .exit)) ⌝ }
 {
     let mut t = core;
     let mut due = n;
     while 0 < due {
-        let rest = go_on(t, regs, memory, pages, ports, table, needs, due);
+        let rest = go_on(t, regs, memory, pages, ports, table, due);
         t = rest.core;
         due = rest.left;
     }
@@ -147,20 +145,10 @@ pub fn run(
 {
     let answer = ask(memory.len(), pages.len(), ports.len(), state.count, budget);
     if number(answer) == 0 {
-        let table = decode::table();
-        let needs = needs::table();
+        let table = needs::table();
         let mut regs = state.regs;
         let core = part(state);
-        let last = run_steps(
-            core,
-            &mut regs,
-            memory,
-            pages,
-            ports,
-            &table,
-            &needs,
-            budget,
-        );
+        let last = run_steps(core, &mut regs, memory, pages, ports, &table, budget);
         return Ran {
             answer,
             state: join(last, regs),

@@ -1,4 +1,4 @@
--- Written by tools/prove.py from answers/cpu.py: answer 6bc5b62b4824, proof a05094020f40.
+-- Written by tools/prove.py from answers/cpu.py: answer 7ea481ae0ee6, proof af91463385d3.
 -- `cpu::run::run_steps` meets its contract. Assumes nothing.
 use Rattle.cpu.proofs.run.run_steps.Statement.{statement}
 use Rattle.cpu.proofs.run.run_steps.Tie as tie
@@ -8,22 +8,21 @@ use Rattle.machine.specs.Machine.{machine}
 use Rattle.machine.specs.Runs.{steps}
 use Rattle.machine.specs.State.{joined}
 use Rattle.steps.proofs.StepLaws.{steps-none}
-use borrow.Author.Needs.{needs}
 use lib.ListN.{length}
 use mathlib.Core.Path.{_≡_, refl, sym, _∙_}
 use native.Mathlib.Omega.{arith}
 
 abbrev Inv-loop : tie.InvT-loop
-Inv-loop regs₀ memory₀ pages₀ ports₀ table needs n t₀ due₀ regs memory pages ports t due = (length memory ≡ length memory₀) × (length pages ≡ length pages₀) × (length ports ≡ length ports₀) × (steps mil1750 due₀ (machine (joined t₀ regs₀) memory₀ pages₀ ports₀) ≡ steps mil1750 due (machine (joined t regs) memory pages ports))
+Inv-loop regs₀ memory₀ pages₀ ports₀ table n t₀ due₀ regs memory pages ports t due = (length memory ≡ length memory₀) × (length pages ≡ length pages₀) × (length ports ≡ length ports₀) × (steps mil1750 due₀ (machine (joined t₀ regs₀) memory₀ pages₀ ports₀) ≡ steps mil1750 due (machine (joined t regs) memory pages ports))
 
 abbrev μ-loop : tie.MeasureT-loop
-μ-loop regs₀ memory₀ pages₀ ports₀ table needs n t₀ due₀ regs memory pages ports t due = due
+μ-loop regs₀ memory₀ pages₀ ports₀ table n t₀ due₀ regs memory pages ports t due = due
 
 loop-holds : tie.Need-loop-holds Inv-loop μ-loop
 loop-holds c = (refl, refl, refl, refl)
 
 go-on-requires : tie.Need-go-on-requires Inv-loop μ-loop
-go-on-requires c κs = (omega arith, omega arith, c .before .before .before .before .before .before .before .before .before .pre .2, c .before .before .before .before .before .before .before .before .before .pre .3, c .before .before .before .before .loop-test .taken)
+go-on-requires c κs = (omega arith, omega arith, c .before .before .before .before .before .before .before .before .before .pre .2, c .before .before .before .before .loop-test .taken)
 
 loop-less : tie.Need-loop-less Inv-loop μ-loop
 loop-less c = omega arith
