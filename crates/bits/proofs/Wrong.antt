@@ -2,7 +2,7 @@
 use mathlib.Core.List.{List, [], _∷_}
 use lib.Dec.{T}
 use Rattle.choice.proofs.Rows.{Row, one, hold}
-use Rattle.bits.specs.Bits.{weight, bit, setBit, resetBit, testBit}
+use Rattle.bits.specs.Bits.{bit, setBit, resetBit, testBit}
 use Rattle.bits.specs.Bytes.{bytes, upperByte, lowerByte, loadUpper, loadLower, storeMasked, storeUpper, storeLower, exchange}
 use Rattle.bits.specs.Logic.{inclusiveOr, logicalAnd, exclusiveOr, logicalNand}
 
@@ -37,6 +37,6 @@ rows =
     ∷ []
 
 pub rows-hold : T (hold rows)
-unfolding rows weight bit setBit resetBit testBit bytes upperByte lowerByte loadUpper loadLower storeMasked storeUpper storeLower exchange
+unfolding rows bit setBit resetBit testBit bytes upperByte lowerByte loadUpper loadLower storeMasked storeUpper storeLower exchange
     inclusiveOr logicalAnd exclusiveOr logicalNand
 rows-hold = tt

@@ -14,6 +14,8 @@ use machine::Core;
 use machine::Instruction;
 use page::Span;
 use rearrange::operation::rearrange;
+use status_word::group_of;
+use status_word::key_of;
 use storage::read::read_span;
 
 pub mod stores;
@@ -33,8 +35,8 @@ pub fn block(
         (wordsOf (keyOf (core .sw)) (groupOf (core .sw)) (now (pages .entry)) (length (now (memory .entry))) (readsOf (now (regs .entry)) n) (now (memory .entry))))
         (joined r (now (regs .exit))) (now (memory .exit)) ⌝ }
 {
-    let key = core.sw / 16 % 16;
-    let group = core.sw % 16;
+    let key = key_of(core.sw);
+    let group = group_of(core.sw);
     let mut buf: [u16; 16] = [0; 16];
     read_span(key, group, memory, pages, from, &mut buf);
     stores::store_words(key, group, regs, memory, pages, n, &buf);

@@ -1,9 +1,10 @@
 // The words that the operations on blocks store. Callers have 512 page registers and a group of four bits.
 ghost use mathlib.Core.Path.{_≡_};
 ghost use mathlib.Core.Bool.{true};
-ghost use Prim.Native.Nat.{ℕ, _+_, _<_};
+ghost use Prim.Native.Nat.{_+_, _<_};
 ghost use lib.Dec.{eqb};
 ghost use lib.ListN.{length, getD};
+ghost use lib.Seq.{sets};
 ghost use Rattle.page.specs.Spans.{written};
 ghost use Rattle.decode.specs.Forms.{operationOf};
 ghost use Rattle.isa.specs.Fields.{fieldA, fieldB, register, registersFrom};
@@ -15,12 +16,12 @@ ghost use Rattle.rearrange.specs.Operation.{isBlock};
 use access::fields::field_a;
 use access::fields::field_b;
 use access::fields::get;
+use access::fields::less;
 use access::fields::registers_from;
 use machine::Instruction;
 use spans::all_from;
 use spans::moved_span;
 use spans::pushed_span;
-use std::num::wrapping_add_u16;
 use storage::write::write_span;
 
 // Register j as PSHM stores it as word number i, which is at most 15.
@@ -29,7 +30,7 @@ pub fn pushed_word(regs: &[u16; 16], j: u16, i: u16) -> u16
     ensures { λ r. ⌜ r ≡ pushedWord (now (regs .entry)) j i ⌝ }
 {
     if j == 15 {
-        return wrapping_add_u16(get(regs, 15), 65535 - i);
+        return less(get(regs, 15), i + 1);
     }
     get(regs, j)
 }
@@ -37,8 +38,8 @@ pub fn pushed_word(regs: &[u16; 16], j: u16, i: u16) -> u16
 // The words that PSHM stores go into a buffer (5.54). A buffer has sixteen words.
 fn push_words(regs: &[u16; 16], n: Instruction, buf: &mut [u16; 16])
     requires { ⌜ length (now buf) ≡ 16 ⌝ }
-    ensures { λ r. ⌜ ((j : ℕ) → j < registersFrom (fieldA (n .first)) (fieldB (n .first))
-        → getD (now (buf .exit)) j 0 ≡ getD (pushedFrom (now (regs .entry)) (fieldB (n .first)) (registersFrom (fieldA (n .first)) (fieldB (n .first))) 0) j 0) ⌝ }
+    ensures { λ r. ⌜ now (buf .exit) ≡ sets (now (buf .entry)) 0
+        (pushedFrom (now (regs .entry)) (fieldB (n .first)) (registersFrom (fieldA (n .first)) (fieldB (n .first))) 0) ⌝ }
 {
     let b = field_b(n.first);
     let k = registers_from(field_a(n.first), b);

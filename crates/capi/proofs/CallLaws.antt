@@ -48,7 +48,7 @@ module _ (w : List ℕ) (x y : Machine) (k : ℕ) (same : (k ≡ 0 → ⊥) → 
 module _ (w memory pages ports : List ℕ) where
   pub loading-keeps : (b : List ℕ) → (loading w memory pages ports b .answer ≡ 0 → ⊥)
       → Replied (loading w memory pages ports b) (loading w memory pages ports b .answer) w memory pages ports
-  unfolding loading given sized image.left
+  unfolding loading given sized image.afterLoading
   loading-keeps b = keeps w _ _ _ (λ h. rw (ne-eqb _ _ h) refl) (eqb (length w) 32)
 
   pub running-keeps : (budget : ℕ) → (running w memory pages ports budget .answer ≡ 0 → ⊥)

@@ -42,7 +42,7 @@ module _ (w memory pages ports : List ℕ) where
 
   -- loading the image b
   unfoldable pub loading : List ℕ → Reply
-  loading b = sized w given (reply (image.numberOf (image.answerOf b given)) w (image.left b given))
+  loading b = sized w given (reply (image.numberOf (image.answerOf b given)) w (image.afterLoading b given))
 
   -- a run
   unfoldable pub running : ℕ → Reply

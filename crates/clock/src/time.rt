@@ -1,11 +1,11 @@
 // The state after a fault, with the hold mark cleared, and at the end of a step (Scope, "One step", 2, 3 and 6), with any registers.
 ghost use mathlib.Core.Path.{_≡_};
-ghost use mathlib.Core.Bool.{_&&_};
+ghost use mathlib.Core.Bool.{cond, _&&_};
 ghost use mathlib.Core.List.{List};
 ghost use Prim.Native.Nat.{ℕ, _%_};
 ghost use lib.Dec.{eqb};
-ghost use Rattle.machine.specs.State.{bit, joined};
-ghost use Rattle.machine.specs.Step.{released, faulted, risen, passing, ticked};
+ghost use Rattle.machine.specs.State.{joined};
+ghost use Rattle.machine.specs.Step.{released, faulted, risen, ticked};
 use machine::Core;
 use std::num::wrapping_add_u16;
 use std::num::wrapping_add_u32;
@@ -60,9 +60,9 @@ fn rise(on: bool, t: u16) -> u16
     t
 }
 
-// The weight of a PI bit, where a timer passes FFFF to 0000.
+// The weight of a PI bit where a timer passes FFFF to 0000, else 0.
 fn pass(on: bool, t: u16, weight: u16) -> u16
-    ensures { λ r. ⌜ ((n : ℕ) → weight ≡ bit n → r ≡ passing on t n) ⌝ }
+    ensures { λ r. ⌜ r ≡ cond (on && eqb t 65535) weight 0 ⌝ }
 {
     if on {
         if t == 65535 {

@@ -1,4 +1,4 @@
-// The privileged operations (5.1, 5.35): XIO's commands and LST.
+// XIO (5.1), the privileged operation that carries out a command.
 ghost use mathlib.Core.Path.{_≡_};
 ghost use lib.ListN.{length};
 ghost use Rattle.machine.specs.State.{joined};
@@ -10,7 +10,7 @@ use machine::Instruction;
 
 mod xio;
 
-// A privileged operation is done, and leaves this core; or its command is refused with an FT bit, and nothing is changed.
+// The command is done, and leaves this core; or it is refused with an FT bit, and nothing is changed.
 pub enum Governed {
     Done(Core),
     Refused(u16),

@@ -3,6 +3,7 @@ use mathlib.Core.Bool.{Bool, true, false, _&&_, Bool·beq}
 use mathlib.Core.List.{List, [], _∷_}
 use Prim.Native.Nat.{ℕ}
 use lib.Dec.{T, eqb}
+use Rattle.choice.proofs.Rows.{allOf}
 use Rattle.whole.specs.Whole.{signed, wrap, holds}
 use Rattle.word.specs.Status.{status, withCarry}
 use Rattle.fixed.specs.Fixed.{Outcome, result}
@@ -17,10 +18,6 @@ pub data Row : Type 0 where
 pub right : Row → Bool
 right (one x v c o) = eqb (x .value) v && eqb (x .cs) c && Bool·beq (x .overflow) o
 right (two x q r c o) = eqb (x .quotient) q && eqb (x .remainder) r && eqb (x .cs) c && Bool·beq (x .overflow) o
-
-pub all : List Row → Bool
-all [] = true
-all (r ∷ rs) = right r && all rs
 
 pub rows : List Row
 rows =
@@ -58,6 +55,6 @@ rows =
     ∷ one (quotient 32 0x1234_5678 0) 0 0b0010 true
     ∷ []
 
-pub rows-hold : T (all rows)
-unfolding all right rows signed wrap holds status withCarry result product longProduct division divided longDivided quotient
+pub rows-hold : T (allOf right rows)
+unfolding right rows signed wrap holds status withCarry result product longProduct division divided longDivided quotient
 rows-hold = tt

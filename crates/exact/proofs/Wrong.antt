@@ -10,7 +10,7 @@ use Rattle.whole.specs.Whole.{signed, wrap, withSign}
 use Rattle.float.specs.Float.{overflowed, floatZero, given, plainFloat}
 use Rattle.float.proofs.Wrong.{parts}
 use Rattle.exact.specs.Exact.{signsDiffer}
-use Rattle.exact.specs.Steps.{bit, signedBy, tail, ranged, upper}
+use Rattle.exact.specs.Steps.{oneIf, signedBy, tail, ranged, upper}
 
 pub rows : List Row
 rows =
@@ -21,13 +21,11 @@ rows =
     (1 ∷ 0 ∷ []) (1 ∷ 1 ∷ []) (0 ∷ 1 ∷ [])
     -- magnitude: the complement; the bits of a negative mantissa
     ∷ one (natAbs (signed 40 0xFF_FFFF_FFFE)) 2 1 0xFF_FFFF_FFFE
-    -- bit: 0 for true; 1 for both
-    ∷ some (bit true ∷ bit false ∷ []) (1 ∷ 0 ∷ []) (0 ∷ 1 ∷ []) (1 ∷ 1 ∷ [])
+    -- one_if: 0 for true; 1 for both
+    ∷ some (oneIf true ∷ oneIf false ∷ []) (1 ∷ 0 ∷ []) (0 ∷ 1 ∷ []) (1 ∷ 1 ∷ [])
     -- largest: the largest positive number; its negation
     ∷ some (parts (given 40 (overflowed 40 (withSign true 1))))
     (0x80_0000_0000 ∷ 255 ∷ 1 ∷ 0 ∷ []) (0x7F_FFFF_FFFF ∷ 255 ∷ 1 ∷ 0 ∷ []) (0x80_0000_0001 ∷ 255 ∷ 1 ∷ 0 ∷ [])
-    -- zero: the exponent 80 instead of 0; no underflow
-    ∷ some (parts (given 40 (floatZero true))) (0 ∷ 128 ∷ 0 ∷ 1 ∷ []) (0 ∷ 0 ∷ 0 ∷ 1 ∷ []) (0 ∷ 128 ∷ 0 ∷ 0 ∷ [])
     -- finish: negated instead of complemented; the exponent not raised by the number of bits truncated
     ∷ some (parts (given 40 (ranged 40 (signedBy true (0x80_0000_0001 / 2 ^ tail 40 0x80_0000_0001)) (300 + tail 40 0x80_0000_0001) 171)))
     (0xBF_FFFF_FFFF ∷ 130 ∷ 0 ∷ 0 ∷ []) (0xC0_0000_0000 ∷ 130 ∷ 0 ∷ 0 ∷ []) (0xBF_FFFF_FFFF ∷ 129 ∷ 0 ∷ 0 ∷ [])

@@ -3,6 +3,7 @@ use mathlib.Core.Bool.{Bool, true, false, _&&_, Bool·beq}
 use mathlib.Core.List.{List, [], _∷_}
 use Prim.Native.Nat.{ℕ}
 use lib.Dec.{T, eqb}
+use Rattle.choice.proofs.Rows.{allOf}
 use Rattle.whole.specs.Whole.{signed, wrap, holds}
 use Rattle.word.specs.Status.{status, withCarry}
 use Rattle.fixed.specs.Fixed.{Outcome, result, sum, absolute, difference, negated}
@@ -15,10 +16,6 @@ pub data Row : Type 0 where
 pub right : Row → Bool
 right (cs s c) = eqb s c
 right (one x v c o) = eqb (x .value) v && eqb (x .cs) c && Bool·beq (x .overflow) o
-
-pub all : List Row → Bool
-all [] = true
-all (r ∷ rs) = right r && all rs
 
 pub rows : List Row
 rows =
@@ -47,6 +44,6 @@ rows =
     ∷ one (negated 32 0x8000_0000) 0x8000_0000 0b0001 true
     ∷ []
 
-pub rows-hold : T (all rows)
-unfolding all right rows signed wrap holds status withCarry result sum absolute difference negated
+pub rows-hold : T (allOf right rows)
+unfolding right rows signed wrap holds status withCarry result sum absolute difference negated
 rows-hold = tt

@@ -4,11 +4,12 @@ use mathlib.Core.List.{List, [], _∷_}
 use Prim.Native.Nat.{ℕ}
 use lib.Dec.{T}
 use lib.IntN.{ℤ}
+use Rattle.choice.proofs.Rows.{allOf}
 use Rattle.whole.specs.Whole.{signed, wrap, holds}
 use Rattle.whole.specs.Normal.{normal, moves, distance}
 use Rattle.float.specs.Float.{Result, isZero, overflowed, floatZero, normalised}
 use Rattle.float.specs.Words.{mantissa24, mantissa40, exponentOf, firstWord, secondWord, thirdWord}
-use Rattle.float.specs.Written.{mantissaIn, exponentIn, written, pendingOf, gives, all}
+use Rattle.float.specs.Written.{mantissaIn, exponentIn, written, pendingOf, gives}
 use Rattle.float_add.specs.Add.{common, aligned, finished, fitted, sumOf, differenceOf}
 
 abbrev Operation : Type 0
@@ -45,6 +46,6 @@ rows =
     ∷ row sumOf 40 0x7fff_ff7f_ffff 0x4000_007f_0000 0x7fff_ff7f_ffff 0x1000 ∷ row differenceOf 40 0x8000_007f_0000 0x4000_007f_0000 0x8000_007f_0000 0x1000
     ∷ row differenceOf 40 0x4000_0080_0001 0x4000_0080_0000 0 0x0200 ∷ []
 
-pub rows-hold : T (all right rows)
-unfolding all right rows
+pub rows-hold : T (allOf right rows)
+unfolding right rows
 rows-hold = tt

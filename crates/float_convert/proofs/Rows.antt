@@ -4,11 +4,12 @@ use mathlib.Core.List.{List, [], _∷_}
 use Prim.Native.Nat.{ℕ, _-_}
 use lib.Dec.{T, eqb}
 use lib.IntN.{ℤ}
+use Rattle.choice.proofs.Rows.{allOf}
 use Rattle.whole.specs.Whole.{signed, wrap}
 use Rattle.whole.specs.Normal.{normal, moves, distance}
 use Rattle.float.specs.Float.{Result, isZero, overflowed, floatZero, normalised}
 use Rattle.float.specs.Words.{mantissa24, mantissa40, exponentOf, firstWord, secondWord, thirdWord}
-use Rattle.float.specs.Written.{mantissaIn, exponentIn, written, pendingOf, gives, all}
+use Rattle.float.specs.Written.{mantissaIn, exponentIn, written, pendingOf, gives}
 use Rattle.float_convert.specs.Convert.{kept, minusOne, oneHalf, same, negatedOf, absoluteOf, compared, comparedOf, tooLarge, integerPart, fixedOf, floatOf}
 
 pub data Row : Type 0 where
@@ -54,6 +55,6 @@ rows =
     ∷ float 40 1 0x4000_0001_0000 ∷ float 40 0 0 ∷ float 40 0x7fff_ffff 0x7fff_ff1f_ff00 ∷ float 40 0x8000_0000 0x8000_001f_0000 ∷ float 40 0xc000_0000 0x8000_001e_0000 ∷ float 40 0xffff_ffff 0x8000_0000_0000
     ∷ []
 
-pub rows-hold : T (all right rows)
-unfolding all right rows
+pub rows-hold : T (allOf right rows)
+unfolding right rows
 rows-hold = tt

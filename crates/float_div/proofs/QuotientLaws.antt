@@ -14,7 +14,7 @@ use Rattle.whole.specs.Whole.{withSign}
 use Rattle.whole.proofs.Diff.{order}
 use Rattle.float.specs.Float.{isZero, overflowed, floatZero}
 use Rattle.exact.specs.Exact.{truncated, signsDiffer, overflowOf}
-use Rattle.exact.specs.Steps.{bit, Led, signedBy, ranged}
+use Rattle.exact.specs.Steps.{oneIf, Led, signedBy, ranged}
 use Rattle.exact.proofs.Ratios.{less-digit}
 use Rattle.exact.proofs.StepLaws.{led-pos}
 use Rattle.exact.proofs.ExactLaws.{times, by-magnitude, differ-is, over-by, truncated-zero, Value, value-by, exact-float}
@@ -77,11 +77,11 @@ module _ {neg : Bool} (w : ℕ) (z y : ℤ) (ea eb : ℕ) (s : neg ≡ signsDiff
       quotient-under l = rw (some, le-ltb (eb + 127) ea g, lt-ltb (ea + 128) eb l) refl
 
       module _ (l : eb ≤ ea + 128) where
-        pub quotient-right : eb + 127 < ea + bit (leb (natAbs y) (natAbs z)) → overflowed w (withSign neg 1) ≡ quotientOf w z ea y eb
+        pub quotient-right : eb + 127 < ea + oneIf (leb (natAbs y) (natAbs z)) → overflowed w (withSign neg 1) ≡ quotientOf w z ea y eb
         unfolding quotientOf
         quotient-right h = rw (some, le-ltb (eb + 127) ea g, le-ltb (ea + 128) eb l, lt-ltb (eb + 127) _ h) (over-by w z y s)
 
-        module _ (m : ea + bit (leb (natAbs y) (natAbs z)) ≤ eb + 127) where
+        module _ (m : ea + oneIf (leb (natAbs y) (natAbs z)) ≤ eb + 127) where
           inside : truncated w (z *ℤ pos (2 ^ (ea + w + 127))) (y *ℤ pos (2 ^ eb)) ≡ quotientOf w z ea y eb
           unfolding quotientOf
           inside = rw (some, le-ltb (eb + 127) ea g, le-ltb (ea + 128) eb l, le-ltb (eb + 127) _ m) refl
@@ -90,7 +90,7 @@ module _ {neg : Bool} (w : ℕ) (z y : ℤ) (ea eb : ℕ) (s : neg ≡ signsDiff
           quotient-of-zero e = sym (value-zero w z y ea eb e) ∙ inside
 
           -- q is the quotient of the two magnitudes moved to the top, and k of its bits do not count
-          pub quotient-done : {i x j x′ : ℕ} (q k : ℕ) → Led w (natAbs z) i x → Led w (natAbs y) j x′ → q ≡ (x * 2 ^ w - bit neg) / x′ →
+          pub quotient-done : {i x j x′ : ℕ} (q k : ℕ) → Led w (natAbs z) i x → Led w (natAbs y) j x′ → q ≡ (x * 2 ^ w - oneIf neg) / x′ →
               2 ≤ w → 2 ^ (w - 2) ≤ q / 2 ^ k → q / 2 ^ k < 2 ^ (w - 1) → ranged w (signedBy neg (q / 2 ^ k)) (ea + j + 127 + k) (eb + i) ≡ quotientOf w z ea y eb
           quotient-done {i} {x} {j} {x′} q k X Y hq t lo hi =
               sym (exact-float w (x * 2 ^ w) x′ q (ea + j + 127) (eb + i) k (quotient-value w z y ea eb (sym s) (led-pos X .0) (led-pos Y .0)) hq
@@ -146,7 +146,7 @@ module _ (w v : ℕ) (o : 2 ≤ w) (z y : ℤ) (ea eb : ℕ) where
         rw (zero-same, magnitude-same)
         (upper-cond v (isZero y || ltb (eb + 127) ea) _ _ ∙ ap₂ (cond (isZero y || ltb (eb + 127) ea)) over-upper
         (upper-cond v (ltb (ea + 128) eb) _ _ ∙ ap₂ (cond (ltb (ea + 128) eb)) (upper-zero v true)
-        (upper-cond v (ltb (eb + 127) (ea + bit (leb (natAbs y) (natAbs z)))) _ _ ∙ ap₂ (cond (ltb (eb + 127) (ea + bit (leb (natAbs y) (natAbs z))))) over-upper inside-upper)))
+        (upper-cond v (ltb (eb + 127) (ea + oneIf (leb (natAbs y) (natAbs z)))) _ _ ∙ ap₂ (cond (ltb (eb + 127) (ea + oneIf (leb (natAbs y) (natAbs z))))) over-upper inside-upper)))
 
   pub quotient-upper : upperOf v (quotientOf (w + v) z′ ea y′ eb) ≡ quotientOf w z ea y eb
   unfolding overflowOf

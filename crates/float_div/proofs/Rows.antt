@@ -1,11 +1,12 @@
 -- Known quotients at both widths, computed by the definition. Assumes nothing.
 use mathlib.Core.List.{List, [], _∷_}
 use lib.Dec.{T}
+use Rattle.choice.proofs.Rows.{allOf}
 use Rattle.whole.specs.Whole.{signed, wrap, withSign, floorDiv}
 use Rattle.whole.specs.Normal.{normal}
 use Rattle.float.specs.Float.{isZero, overflowed, floatZero}
 use Rattle.exact.specs.Exact.{mantissaAt, highest, truncated, signsDiffer, overflowOf}
-use Rattle.exact.proofs.Rows.{Row, plain, over, under, right, all}
+use Rattle.exact.proofs.Rows.{Row, plain, over, under, right}
 use Rattle.float_div.specs.Divide.{quotientOf}
 
 pub rows : List Row
@@ -28,6 +29,6 @@ rows =
     -- operands that are not normalised
     ∷ plain 24 0x4000_0000 0x0000_0100 0x4000_0017 ∷ over 24 0x4000_006a 0x0000_0100 0x7fff_ff7f ∷ plain 24 0xffff_ff00 0x0000_0300 0xaaaa_aaff ∷ plain 40 0xffff_ff00_ffff 0x0000_0000_0003 0xaaaa_aaff_aaaa ∷ []
 
-pub rows-hold : T (all quotientOf rows)
-unfolding all right rows signed wrap withSign floorDiv normal isZero overflowed floatZero mantissaAt highest truncated signsDiffer overflowOf quotientOf
+pub rows-hold : T (allOf (right quotientOf) rows)
+unfolding right rows signed wrap withSign floorDiv normal isZero overflowed floatZero mantissaAt highest truncated signsDiffer overflowOf quotientOf
 rows-hold = tt

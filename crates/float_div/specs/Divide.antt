@@ -6,7 +6,7 @@ use lib.IntN.{ℤ, pos, natAbs, _*ℤ_}
 use lib.Dec.{ltb, leb}
 use Rattle.float.specs.Float.{Result, isZero, floatZero}
 use Rattle.exact.specs.Exact.{truncated, overflowOf}
-use Rattle.exact.specs.Steps.{bit}
+use Rattle.exact.specs.Steps.{oneIf}
 
 -- In the order of the page:
 -- * a zero divisor, or n above 7F, overflows, by the signs of the operands;
@@ -17,5 +17,5 @@ unfoldable pub quotientOf : ℕ → ℤ → ℕ → ℤ → ℕ → Result
 quotientOf w za ea zo eo =
     cond (isZero zo || ltb (eo + 127) ea) (overflowOf w za zo)
     (cond (ltb (ea + 128) eo) (floatZero true)
-    (cond (ltb (eo + 127) (ea + bit (leb (natAbs zo) (natAbs za)))) (overflowOf w za zo)
+    (cond (ltb (eo + 127) (ea + oneIf (leb (natAbs zo) (natAbs za)))) (overflowOf w za zo)
     (truncated w (za *ℤ pos (2 ^ (ea + w + 127))) (zo *ℤ pos (2 ^ eo)))))

@@ -3,26 +3,26 @@ ghost use mathlib.Core.Path.{_≡_};
 ghost use Prim.Native.Nat.{_-_, _*_, _/_, _^_, _≤_, _<_};
 ghost use Rattle.whole.specs.Whole.{signed};
 ghost use Rattle.float.specs.Float.{given};
-ghost use Rattle.exact.specs.Steps.{bit};
+ghost use Rattle.exact.specs.Steps.{oneIf};
 ghost use Rattle.float_div.specs.Divide.{quotientOf};
-use exact::bit;
 use exact::finish;
 use exact::largest;
 use exact::lead;
 use exact::magnitude;
+use exact::one_if;
 use exact::signs_differ;
 use exact::upper;
 use exact::wider;
-use exact::zero;
 use float::Float;
+use float::zero;
 
 // a * 2^40, less 1 where neg, divided by b, for two magnitudes at the top of 40 bits: by two digits, so that each dividend is below 2^61.
 fn quotient(a: u64, b: u64, neg: bool) -> u64
     requires { ⌜ (2 ^ 39 ≤ a) × (a < 2 ^ 40) × (2 ^ 39 ≤ b) × (b < 2 ^ 40) ⌝ }
-    ensures { λ r. ⌜ (r ≡ (a * 2 ^ 40 - bit neg) / b) × (2 ^ 38 ≤ r) ⌝ }
+    ensures { λ r. ⌜ (r ≡ (a * 2 ^ 40 - oneIf neg) / b) × (2 ^ 38 ≤ r) ⌝ }
 {
     let n = a * 0x10_0000;
-    let low = n % b * 0x10_0000 + b - bit(neg) as u64;
+    let low = n % b * 0x10_0000 + b - one_if(neg) as u64;
     n / b * 0x10_0000 + low / b - 1
 }
 
@@ -42,7 +42,7 @@ fn divide40(a: u64, ea: u32, b: u64, eb: u32) -> Float
         return zero(true);
     }
     // n + 1 where the quotient is 1.0 or more in magnitude
-    let n = ea + bit(magnitude(b) <= magnitude(a));
+    let n = ea + one_if(magnitude(b) <= magnitude(a));
     if eb + 127 < n {
         return largest(neg);
     }

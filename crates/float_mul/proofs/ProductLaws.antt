@@ -14,7 +14,7 @@ use Rattle.whole.specs.Whole.{withSign}
 use Rattle.whole.proofs.Signs.{mul-sign}
 use Rattle.float.specs.Float.{overflowed, floatZero}
 use Rattle.exact.specs.Exact.{truncated, signsDiffer, overflowOf}
-use Rattle.exact.specs.Steps.{bit, Led, signedBy, ranged}
+use Rattle.exact.specs.Steps.{oneIf, Led, signedBy, ranged}
 use Rattle.exact.proofs.Ratios.{less-digit}
 use Rattle.exact.proofs.StepLaws.{led-pos}
 use Rattle.exact.proofs.ExactLaws.{times, by-magnitude, differ-is, over-by, differ-none, truncated-zero, Value, value-by, exact-float}
@@ -71,7 +71,7 @@ module _ (w : ℕ) (z y : ℤ) (ea eb : ℕ) where
       product-zero e = sym (value-zero w (ea + eb) z y e) ∙ inside
 
       -- q is the product of the two magnitudes moved to the top, less its last h bits, and k of its bits do not count
-      pub product-done : {i x j x′ : ℕ} {neg : Bool} (q c h k : ℕ) → Led w (natAbs z) i x → Led w (natAbs y) j x′ → neg ≡ signsDiffer z y → q ≡ (x * x′ - bit neg) / 2 ^ h →
+      pub product-done : {i x j x′ : ℕ} {neg : Bool} (q c h k : ℕ) → Led w (natAbs z) i x → Led w (natAbs y) j x′ → neg ≡ signsDiffer z y → q ≡ (x * x′ - oneIf neg) / 2 ^ h →
           c + h ≡ w + 127 → 2 ≤ w → 2 ^ (w - 2) ≤ q / 2 ^ k → q / 2 ^ k < 2 ^ (w - 1) → ranged w (signedBy neg (q / 2 ^ k)) (ea + eb + k) (i + j + c) ≡ productOf w z ea y eb
       product-done {i} {x} {j} {x′} q c h k X Y hs hq e t lo hi =
           sym (exact-float w (x * x′) (2 ^ h) q (ea + eb) (i + j + c) k (product-value w (ea + eb) z y (sym hs) (mul-pos (led-pos X .0) (led-pos Y .0)))

@@ -1,11 +1,12 @@
 -- Known products at both widths, computed by the definition. Assumes nothing.
 use mathlib.Core.List.{List, [], _∷_}
 use lib.Dec.{T}
+use Rattle.choice.proofs.Rows.{allOf}
 use Rattle.whole.specs.Whole.{signed, wrap, withSign, floorDiv}
 use Rattle.whole.specs.Normal.{normal}
 use Rattle.float.specs.Float.{isZero, overflowed, floatZero}
 use Rattle.exact.specs.Exact.{mantissaAt, highest, truncated, signsDiffer, overflowOf}
-use Rattle.exact.proofs.Rows.{Row, plain, over, under, right, all}
+use Rattle.exact.proofs.Rows.{Row, plain, over, under, right}
 use Rattle.float_mul.specs.Multiply.{productOf}
 
 pub rows : List Row
@@ -28,6 +29,6 @@ rows =
     ∷ plain 24 0x0000_0003 0x6000_0001 0 ∷ over 24 0x0000_007f 0x4000_0001 0x7fff_ff7f ∷ over 24 0x0000_007f 0xa000_0001 0x8000_007f ∷ under 24 0x0000_0080 0x4000_00ff 0
     ∷ plain 40 0x0000_0003_0000 0x6000_0001_0000 0 ∷ over 40 0x0000_007f_0000 0xa000_0001_0000 0x8000_007f_0000 ∷ []
 
-pub rows-hold : T (all productOf rows)
-unfolding all right rows signed wrap withSign floorDiv normal isZero overflowed floatZero mantissaAt highest truncated signsDiffer overflowOf productOf
+pub rows-hold : T (allOf (right productOf) rows)
+unfolding right rows signed wrap withSign floorDiv normal isZero overflowed floatZero mantissaAt highest truncated signsDiffer overflowOf productOf
 rows-hold = tt

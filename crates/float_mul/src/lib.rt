@@ -3,24 +3,24 @@ ghost use mathlib.Core.Path.{_≡_};
 ghost use Prim.Native.Nat.{_-_, _*_, _/_, _^_, _≤_, _<_};
 ghost use Rattle.whole.specs.Whole.{signed};
 ghost use Rattle.float.specs.Float.{given};
-ghost use Rattle.exact.specs.Steps.{bit};
+ghost use Rattle.exact.specs.Steps.{oneIf};
 ghost use Rattle.float_mul.specs.Multiply.{productOf};
-use exact::bit;
 use exact::finish;
 use exact::largest;
 use exact::lead;
+use exact::one_if;
 use exact::signs_differ;
 use exact::upper;
 use exact::wider;
-use exact::zero;
 use float::Float;
+use float::zero;
 
 // a * b, less 1 where neg, without its last 20 bits, for two magnitudes at the top of 40 bits: by two digits of a, so that each product is below 2^60.
 fn product(a: u64, b: u64, neg: bool) -> u64
     requires { ⌜ (2 ^ 39 ≤ a) × (a < 2 ^ 40) × (2 ^ 39 ≤ b) × (b < 2 ^ 40) ⌝ }
-    ensures { λ r. ⌜ (r ≡ (a * b - bit neg) / 2 ^ 20) × (2 ^ 38 ≤ r) ⌝ }
+    ensures { λ r. ⌜ (r ≡ (a * b - oneIf neg) / 2 ^ 20) × (2 ^ 38 ≤ r) ⌝ }
 {
-    let low = a % 0x10_0000 * b + 0x10_0000 - bit(neg) as u64;
+    let low = a % 0x10_0000 * b + 0x10_0000 - one_if(neg) as u64;
     a / 0x10_0000 * b + low / 0x10_0000 - 1
 }
 

@@ -13,37 +13,37 @@ use Rattle.page.specs.declared.Place.the-variants.{At, Refused}
 use Rattle.page.specs.declared.Verdict.{Verdict}
 use Rattle.page.specs.declared.Verdict.the-variants.{Clear, Fault}
 use Rattle.page.specs.Pages.{lookup}
-use Rattle.page.specs.Spans.{wrapped, gotAt, wordOf, putAt, andThen, blank, passed, checkedFrom, checked, readFrom, wordsOf, writtenFrom, written}
+use Rattle.page.specs.Spans.{wrapped, gotAt, wordOf, putAt, andThen, sixteenZeros, passed, checkedFrom, checked, readFrom, wordsOf, writtenFrom, written}
 use Rattle.page.proofs.SpanLaws.{passed-elim}
 use Rattle.page.proofs.EachLaws.{put-length}
 use Rattle.machine.specs.Machine.{spanFrom}
 use Rattle.isa.specs.Effects.{three}
 use Rattle.gather.specs.declared.Gathered.{Gathered}
-use Rattle.gather.specs.Gathers.{FirstThree, complete, denied, gathered, after, fromThird, fromSecond, fromFirst}
+use Rattle.gather.specs.Gathers.{FirstThree, complete, denied, gathered, withWord, fromThird, fromSecond, fromFirst}
 use Rattle.gather.specs.Stores.{storedOne}
 
 -- ---- words read
 
 -- by their places, from one to three of them
 module _ (m : List ℕ) where
-  one : (q : Place) → after (gotAt m q) (λ x. complete x 0 0) ≡ gathered (andThen q Clear) (set blank 0 (wordOf (gotAt m q)))
-  unfolding gathered after andThen gotAt wordOf
+  one : (q : Place) → withWord (gotAt m q) (λ x. complete x 0 0) ≡ gathered (andThen q Clear) (set sixteenZeros 0 (wordOf (gotAt m q)))
+  unfolding gathered withWord andThen gotAt wordOf
   one (At p) = refl
   one (Refused b) = refl
 
   two : (q r : Place)
-      → after (gotAt m q) (λ x. after (gotAt m r) (λ y. complete x y 0))
-      ≡ gathered (andThen q (andThen r Clear)) (set (set blank 0 (wordOf (gotAt m q))) 1 (wordOf (gotAt m r)))
-  unfolding gathered after andThen gotAt wordOf
+      → withWord (gotAt m q) (λ x. withWord (gotAt m r) (λ y. complete x y 0))
+      ≡ gathered (andThen q (andThen r Clear)) (set (set sixteenZeros 0 (wordOf (gotAt m q))) 1 (wordOf (gotAt m r)))
+  unfolding gathered withWord andThen gotAt wordOf
   two (At p) (At a) = refl
   two (At p) (Refused b) = refl
   two (Refused b) r = refl
 
   all-three : (q r s : Place)
-      → after (gotAt m q) (λ x. after (gotAt m r) (λ y. after (gotAt m s) (λ z. complete x y z)))
+      → withWord (gotAt m q) (λ x. withWord (gotAt m r) (λ y. withWord (gotAt m s) (λ z. complete x y z)))
       ≡ gathered (andThen q (andThen r (andThen s Clear)))
-      (set (set (set blank 0 (wordOf (gotAt m q))) 1 (wordOf (gotAt m r))) 2 (wordOf (gotAt m s)))
-  unfolding gathered after andThen gotAt wordOf
+      (set (set (set sixteenZeros 0 (wordOf (gotAt m q))) 1 (wordOf (gotAt m r))) 2 (wordOf (gotAt m s)))
+  unfolding gathered withWord andThen gotAt wordOf
   all-three (At p) (At a) (At c) = refl
   all-three (At p) (At a) (Refused b) = refl
   all-three (At p) (Refused b) s = refl

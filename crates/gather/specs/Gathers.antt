@@ -32,20 +32,20 @@ gathered Clear ws = complete (getD ws 0 0) (getD ws 1 0) (getD ws 2 0)
 gathered (Fault b) ws = denied b
 
 -- a word goes on, a refusal ends
-unfoldable pub after : Got → (ℕ → Gathered) → Gathered
-after (Word w) f = f w
-after (Missed b) f = denied b
+unfoldable pub withWord : Got → (ℕ → Gathered) → Gathered
+withWord (Word w) f = f w
+withWord (Missed b) f = denied b
 
 -- k words, one by one
 module _ (key group : ℕ) (g : List ℕ) (size : ℕ) (m : List ℕ) (k : ℕ) where
   -- from the third on, at c, after x and y
   unfoldable pub fromThird : ℕ → ℕ → ℕ → Gathered
-  fromThird x y c = cond (ltb 2 k) (after (gotAt m (lookup Read key group g size c)) (λ z. complete x y z)) (complete x y 0)
+  fromThird x y c = cond (ltb 2 k) (withWord (gotAt m (lookup Read key group g size c)) (λ z. complete x y z)) (complete x y 0)
 
   -- from the second on, at b, after x
   unfoldable pub fromSecond : ℕ → ℕ → Gathered
-  fromSecond x b = cond (ltb 1 k) (after (gotAt m (lookup Read key group g size b)) (λ y. fromThird x y (wrapped (b + 1)))) (complete x 0 0)
+  fromSecond x b = cond (ltb 1 k) (withWord (gotAt m (lookup Read key group g size b)) (λ y. fromThird x y (wrapped (b + 1)))) (complete x 0 0)
 
   -- from the first on, at a
   unfoldable pub fromFirst : ℕ → Gathered
-  fromFirst a = cond (ltb 0 k) (after (gotAt m (lookup Read key group g size a)) (λ x. fromSecond x (wrapped (a + 1)))) (complete 0 0 0)
+  fromFirst a = cond (ltb 0 k) (withWord (gotAt m (lookup Read key group g size a)) (λ x. fromSecond x (wrapped (a + 1)))) (complete 0 0 0)

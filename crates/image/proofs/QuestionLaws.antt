@@ -10,7 +10,7 @@ use borrow.Author.Tests.{eq-eqb, ne-eqb, le-leb, lt-leb}
 use Rattle.image.specs.declared.Entry.{Entry}
 use Rattle.image.specs.declared.Loading.{Loading}
 use Rattle.image.specs.declared.Loading.the-variants.{Accepted, NoCount, ManyEntries, ShortTable, BadKind, BadRange, SharedWord, BadBodies}
-use Rattle.image.specs.Image.{countOf, entryAt, wordsBefore, tableEnd, bodyAt, numberOf, asked, andThen, targetSize, endOf, share, sharesEarlier, entryAnswer, entriesAnswer, imageAnswer}
+use Rattle.image.specs.Image.{countOf, entryAt, wordsBefore, tableEnd, bodyAt, numberOf, asked, unlessRefused, targetSize, endOf, share, sharesEarlier, entryAnswer, entriesAnswer, imageAnswer}
 
 -- ---- the words of the bodies
 
@@ -77,18 +77,18 @@ module _ (memory : ℕ) (b : List ℕ) where
   entries-none zero k h = refl
   entries-none (suc n) k h = absurd (omega arith)
 
-  pub entries-step : (n k : ℕ) → 0 < n → entriesAnswer memory b n k ≡ andThen (entryAnswer memory b k) (entriesAnswer memory b (n - 1) (k + 1))
+  pub entries-step : (n k : ℕ) → 0 < n → entriesAnswer memory b n k ≡ unlessRefused (entryAnswer memory b k) (entriesAnswer memory b (n - 1) (k + 1))
   unfolding entriesAnswer
   entries-step zero k h = absurd (omega arith)
   entries-step (suc n) k h = rw (sub-one, add-one) refl
 
   module _ (n k : ℕ) (h : 0 < n) (a : Loading) (e : a ≡ entryAnswer memory b k) (q : ℕ) (f : q ≡ numberOf a) where
     pub entries-on : q ≡ 0 → entriesAnswer memory b n k ≡ entriesAnswer memory b (n - 1) (k + 1)
-    unfolding andThen
+    unfolding unlessRefused
     entries-on z = entries-step n k h ∙ rw (← e, ← f, z) refl
 
     pub entries-out : (q ≡ 0 → ⊥) → a ≡ entriesAnswer memory b n k
-    unfolding andThen
+    unfolding unlessRefused
     entries-out z = sym (entries-step n k h ∙ rw (← e, ← f, ne-eqb _ _ z) refl)
 
 -- ---- the questions to an image
@@ -110,14 +110,14 @@ module _ (memory : ℕ) (b : List ℕ) where
 
       module _ (table : 2 + 10 * n ≤ length b) (a : Loading) (e : a ≡ entriesAnswer memory b n 0) (q : ℕ) (f : q ≡ numberOf a) where
         pub bad-entry : (q ≡ 0 → ⊥) → a ≡ imageAnswer memory b
-        unfolding imageAnswer asked tableEnd andThen
+        unfolding imageAnswer asked tableEnd unlessRefused
         bad-entry h = rw (le-leb _ _ two, ← c, le-leb _ _ few, le-leb _ _ table, ← e, ← f, ne-eqb _ _ h) refl
 
         module _ (right : q ≡ 0) (w : ℕ) (g : w ≡ wordsBefore b n) where
           pub bad-bodies : (length b ≡ 2 + 10 * n + 2 * w → ⊥) → BadBodies ≡ imageAnswer memory b
-          unfolding imageAnswer asked tableEnd andThen bodyAt
+          unfolding imageAnswer asked tableEnd unlessRefused bodyAt
           bad-bodies h = rw (le-leb _ _ two, ← c, le-leb _ _ few, le-leb _ _ table, ← e, ← f, eq-eqb _ _ right, ← g, ne-eqb _ _ h) refl
 
           pub image-right : length b ≡ 2 + 10 * n + 2 * w → Accepted ≡ imageAnswer memory b
-          unfolding imageAnswer asked tableEnd andThen bodyAt
+          unfolding imageAnswer asked tableEnd unlessRefused bodyAt
           image-right h = rw (le-leb _ _ two, ← c, le-leb _ _ few, le-leb _ _ table, ← e, ← f, eq-eqb _ _ right, ← g, eq-eqb _ _ h) refl

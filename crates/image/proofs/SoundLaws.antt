@@ -9,7 +9,7 @@ use lib.ListN.{length}
 use borrow.Author.Tests.{eqb-true, eqb-false, leb-true}
 use Rattle.image.specs.declared.Entry.{Entry}
 use Rattle.image.specs.declared.Loading.{Loading}
-use Rattle.image.specs.Image.{countOf, entryAt, tableEnd, bodyAt, numberOf, asked, andThen, targetSize, endOf, entryAnswer, entriesAnswer, imageAnswer, admission}
+use Rattle.image.specs.Image.{countOf, entryAt, tableEnd, bodyAt, numberOf, asked, unlessRefused, targetSize, endOf, entryAnswer, entriesAnswer, imageAnswer, admission}
 use Rattle.image.proofs.QuestionLaws.{entries-step}
 
 asked-yes : (t : Bool) (out rest : Loading) → (numberOf out ≡ 0 → ⊥) → numberOf (asked t out rest) ≡ 0 → (t ≡ true) × (numberOf rest ≡ 0)
@@ -17,8 +17,8 @@ unfolding asked
 asked-yes true out rest n h = (refl, h)
 asked-yes false out rest n h = absurd (n h)
 
-then-yes : (a rest : Loading) → numberOf (andThen a rest) ≡ 0 → (numberOf a ≡ 0) × (numberOf rest ≡ 0)
-unfolding andThen
+then-yes : (a rest : Loading) → numberOf (unlessRefused a rest) ≡ 0 → (numberOf a ≡ 0) × (numberOf rest ≡ 0)
+unfolding unlessRefused
 then-yes a rest h = go (eqb (numberOf a) 0) refl h
   where
     go : (t : Bool) → eqb (numberOf a) 0 ≡ t → numberOf (cond t rest a) ≡ 0 → (numberOf a ≡ 0) × (numberOf rest ≡ 0)

@@ -73,8 +73,8 @@ asked true out rest = rest
 asked false out rest = out
 
 -- several questions: on to the rest unless one of them was answered by "no"
-unfoldable pub andThen : Loading → Loading → Loading
-andThen a rest = cond (eqb (numberOf a) 0) rest a
+unfoldable pub unlessRefused : Loading → Loading → Loading
+unlessRefused a rest = cond (eqb (numberOf a) 0) rest a
 
 -- the words of the target of a kind: memory of the given size, page registers, R0 to R15, or the five words of kind 4
 unfoldable pub targetSize : ℕ → ℕ → ℕ
@@ -106,7 +106,7 @@ module _ (memory : ℕ) (b : List ℕ) where
   -- those to n entries, of which the first has the number k
   unfoldable pub entriesAnswer : ℕ → ℕ → Loading
   entriesAnswer zero k = Accepted
-  entriesAnswer (suc n) k = andThen (entryAnswer k) (entriesAnswer n (suc k))
+  entriesAnswer (suc n) k = unlessRefused (entryAnswer k) (entriesAnswer n (suc k))
 
   -- those to an image
   unfoldable pub imageAnswer : Loading
@@ -114,7 +114,7 @@ module _ (memory : ℕ) (b : List ℕ) where
       asked (leb 2 (length b)) NoCount
       (asked (leb (countOf b) 64) ManyEntries
       (asked (leb (tableEnd b) (length b)) ShortTable
-      (andThen (entriesAnswer (countOf b) 0)
+      (unlessRefused (entriesAnswer (countOf b) 0)
       (asked (eqb (length b) (bodyAt b (countOf b))) BadBodies
       Accepted))))
 
@@ -163,10 +163,10 @@ module _ (b : List ℕ) where
   loaded x = withBodies (countOf b) 0 (resetMachine (length (x .memory)) (length (x .pages)) (length (x .ports)))
 
   -- what loading leaves: a refusal changes nothing
-  unfoldable pub left : Machine → Machine
-  left x = cond (eqb (numberOf (answerOf b x)) 0) (loaded x) x
+  unfoldable pub afterLoading : Machine → Machine
+  afterLoading x = cond (eqb (numberOf (answerOf b x)) 0) (loaded x) x
 
   -- all that loading on the machine x hands back and leaves
   pub record Outcome (x : Machine) (answer : Loading) (s : State) (memory pages ports : List ℕ) : Type 0 where
     pub answer-is : answer ≡ answerOf b x
-    pub became : Became (left x) s memory pages ports
+    pub became : Became (afterLoading x) s memory pages ports

@@ -55,7 +55,7 @@ fn vector_each(memory: &[u16], pages: &[u16], n: u16) -> Vector
 }
 
 // Interrupt n, where MK, SW and IC lie in one page and no word is refused: the linkage pointer is before the service pointer, MK and SW are
-// before IC.
+// before IC. Open, for speed, is whether all are found here: where they are, they are the vector; where not, each word is looked up.
 fn vector_found(memory: &[u16], pages: &[u16], n: u16) -> Found
     requires { ⌜ (length (now pages) ≡ 512) × (n < 16) ⌝ }
     ensures { λ r. ⌜ foundOr r (vectorOf (now (memory .entry)) (now (pages .entry)) n) ≡ vectorOf (now (memory .entry)) (now (pages .entry)) n ⌝ }

@@ -1,35 +1,26 @@
--- Known instructions, each run as one step of the machine against the definitions: rows of one table that the checker computes. Assumes nothing.
-use Prim.Native.Nat.{ℕ, _%_}
-use mathlib.Core.Bool.{Bool, true, false, _&&_}
+-- Known instructions, each run as one step of the machine against the definitions: rows of one table that the checker computes. Every part of the machine after the step is
+-- compared: what a row does not name is as it was before. Assumes nothing.
+use Prim.Native.Nat.{ℕ, _*_}
+use mathlib.Core.Bool.{Bool}
 use mathlib.Core.List.{List, [], _∷_, _++_}
-use lib.Dec.{T, eqb}
+use lib.Dec.{T}
 use lib.ListN.{replicate, set}
 use Rattle.choice.specs.Table.{tableOf}
+use Rattle.choice.proofs.Rows.{allOf}
 use Rattle.machine.specs.declared.State.{State}
 use Rattle.machine.specs.Machine.{Machine, machine}
-use Rattle.machine.specs.State.{csOf}
+use Rattle.machine.specs.State.{withPi}
 use Rattle.machine.specs.Step.{step}
 use Rattle.machine.specs.Runs.{steps}
+use Rattle.machine.proofs.Opened.{machinery}
+use Rattle.machine.proofs.Samples.{resetPages, stateAt, elapsed, sameMachine}
 use Rattle.isa.specs.Mil1750.{mil1750}
 use Rattle.isa.proofs.OpenWords.{words}
 use Rattle.isa.proofs.OpenFloats.{floats}
 use Rattle.isa.proofs.OpenDecoder.{decoder}
-use Rattle.machine.proofs.Opened.{machinery}
 use Rattle.isa.proofs.OpenInstructions.{instructions}
 
--- the reset state with other registers
-abbrev pub started : List ℕ → State
-started regs =
-    record { regs = regs; ic = 0; sw = 0; mk = 0; pi = 0; ft = 0; enabled = false; hold = false; ta = 0; tb = 0; taon = true; tbon = true; count = 0 }
-
--- the page registers after reset: each holds its page number
-abbrev pub resetPages : List ℕ
-resetPages = tableOf (λ k. k % 16) 0 512
-
-abbrev pub loaded : List ℕ → List ℕ → Machine
-loaded regs memory = machine (started regs) memory resetPages (replicate 1024 0)
-
--- an instruction, the registers before it, and R0 to R3, CS and PI after it
+-- an instruction, R0 to R3 before it, and R0 to R3, CS and PI after it
 pub record Row : Type 0 where
   pub instruction : ℕ
   pub before : List ℕ
@@ -59,32 +50,34 @@ rows =
     row 0xBC02 (four 0 0 0x4000 0x0080) (four 0 0 0x4000 0x0080) 2 0x0200 ∷
     []
 
-unfoldable pub same : List ℕ → List ℕ → Bool
-same [] ys = true
-same (x ∷ xs) [] = false
-same (x ∷ xs) (y ∷ ys) = eqb x y && same xs ys
+-- n numbers from k on: what is in R4 to R15, in the words after the instruction and in the ports, so that a change shows
+abbrev pub numbers : ℕ → ℕ → List ℕ
+numbers k n = tableOf (λ i. i) k n
 
--- the machine after one step has what the row says, is at the next instruction and has no fault
+-- R0 to R3, IC and SW, the others as above
+abbrev pub stateOf : List ℕ → ℕ → ℕ → State
+stateOf few ic sw = stateAt (few ++ numbers 4 12) ic sw
+
+abbrev pub holding : Row → State → Machine
+holding r s = machine s (r .instruction ∷ numbers 1 4095) resetPages (numbers 0 1024)
+
+-- the machine after one step: at the next instruction and without a fault; of SW CS alone is not 0, and counter and timers have run on
 unfoldable pub right : Row → Bool
 right r =
-    let s = step mil1750 (loaded (r .before ++ replicate 12 0) (r .instruction ∷ replicate 4095 0)) .state in
-    same (r .after) (s .regs) && eqb (csOf (s .sw)) (r .cs) && eqb (s .pi) (r .pi) && eqb (s .ft) 0 && eqb (s .ic) 1
+    let x = step mil1750 (holding r (stateOf (r .before) 0 0)) in
+    sameMachine x (holding r (elapsed 1 (withPi (stateOf (r .after) 1 (4096 * r .cs)) (r .pi))))
 
-unfoldable pub all : List Row → Bool
-all [] = true
-all (r ∷ rs) = right r && all rs
-
-pub rows-hold : T (all rows)
-unfolding words floats decoder machinery instructions same right all rows
+pub rows-hold : T (allOf right rows)
+unfolding words floats decoder machinery instructions right rows
 rows-hold = tt
 
--- the program's example: 1,000 steps of 823F 7900 on 16,384 words
+-- the program's example: 1,000 steps of 823F 7900 on 16,384 words after reset
+abbrev pub exampleAt : State → Machine
+exampleAt s = machine s (0x823F ∷ 0x7900 ∷ replicate 16382 0) resetPages (replicate 1024 0)
+
 unfoldable pub example : Machine
-example = steps mil1750 1000 (loaded (replicate 16 0) (0x823F ∷ 0x7900 ∷ replicate 16382 0))
+example = steps mil1750 1000 (exampleAt (stateAt (replicate 16 0) 0 0))
 
-unfoldable pub shown : State → Bool
-shown s = same (set (replicate 16 0) 3 16) (s .regs) && eqb (s .ic) 1 && eqb (s .sw) 0x4000 && eqb (s .mk) 0 && eqb (s .pi) 0 && eqb (s .ft) 0 && eqb (s .count) 1000
-
-pub example-holds : T (shown (example .state))
-unfolding words floats decoder machinery instructions same example shown
+pub example-holds : T (sameMachine example (exampleAt (elapsed 1000 (stateAt (set (replicate 16 0) 3 16) 1 0x4000))))
+unfolding words floats decoder machinery instructions example
 example-holds = tt

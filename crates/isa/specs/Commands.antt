@@ -9,8 +9,8 @@ use Rattle.choice.specs.Select.{select, upTo}
 use Rattle.decode.specs.Forms.{operationOf}
 use Rattle.machine.specs.declared.State.{State}
 use Rattle.machine.specs.declared.Instruction.{Instruction}
-use Rattle.bits.specs.Bits.{resetBit}
-use Rattle.machine.specs.State.{bit, withRegs, withIc, withSw, withMk, withPi, withFt, withEnabled, withHold, withTa, withTb, withTaOn, withTbOn}
+use Rattle.bits.specs.Bits.{weight, resetBit}
+use Rattle.machine.specs.State.{withRegs, withIc, withSw, withMk, withPi, withFt, withEnabled, withHold, withTa, withTb, withTaOn, withTbOn}
 use Rattle.machine.specs.Machine.{Supervised, done, refused, nextOf}
 use Rattle.isa.specs.Fields.{fieldA, register, withRegister}
 
@@ -59,7 +59,7 @@ stateCommand s g o n ra command =
     (0xC00A, becomes g o (withRa s n (s .ta))) ∷
     (0xC00E, becomes g o (withRa s n (s .tb))) ∷
     [])
-    (refused (bit 5))
+    (refused (weight 5))
 
 -- all commands: by ranges those that name a port or a page register in their low bits, PO PI WIPR WOPR RIPR ROPR, and between them the others
 unfoldable pub commanded : State → List ℕ → List ℕ → Instruction → ℕ → ℕ → Supervised

@@ -9,17 +9,17 @@ use Rattle.machine.specs.Machine.{machine, Became}
 use Rattle.machine.proofs.MachineLaws.{became-machine, machine-became}
 use Rattle.image.specs.declared.Loading.{Loading}
 use Rattle.reset.specs.Reset.{resetMachine}
-use Rattle.image.specs.Image.{countOf, numberOf, admission, answerOf, withBodies, loaded, left, Outcome}
+use Rattle.image.specs.Image.{countOf, numberOf, admission, answerOf, withBodies, loaded, afterLoading, Outcome}
 
 -- a is the answer, and q its number
 module _ (b m g o : List ℕ) (a : Loading) (e : a ≡ admission b (length m) (length g) (length o)) (q : ℕ) (f : q ≡ numberOf a) where
   pub refused : (s : State) → (q ≡ 0 → ⊥) → Outcome b (machine s m g o) a s m g o
-  unfolding left answerOf
+  unfolding afterLoading answerOf
   refused s n = record { answer-is = e; became = machine-became (sym (rw (← e, ← f, ne-eqb _ _ n) refl)) }
 
   -- t, m', g' and o' are what reset leaves
   pub accepted : (s : State) → q ≡ 0 → (t : State) (m' g' o' : List ℕ) → Became (resetMachine (length m) (length g) (length o)) t m' g' o'
       → (u : State) (m'' g'' : List ℕ) → Became (withBodies b (countOf b) 0 (machine t m' g' o')) u m'' g'' o' → Outcome b (machine s m g o) a u m'' g'' o'
-  unfolding left loaded answerOf
+  unfolding afterLoading loaded answerOf
   accepted s z t m' g' o' r u m'' g'' w =
       record { answer-is = e; became = rw (← e, ← f, eq-eqb _ _ z, ← became-machine r) w }

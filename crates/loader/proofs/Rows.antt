@@ -1,29 +1,18 @@
 -- Known images, as rows of one table that the checker computes: what is loaded, and each refusal. Assumes nothing.
 use Prim.Native.Nat.{ℕ, zero, suc, _-_, _/_, _%_}
-use mathlib.Core.Bool.{Bool, true, false, cond, _&&_}
+use mathlib.Core.Bool.{Bool, true, false, _&&_}
 use mathlib.Core.List.{List, [], _∷_, _++_}
 use lib.Dec.{T, eqb}
 use lib.ListN.{length, replicate}
+use Rattle.choice.proofs.Rows.{equal, allOf}
 use Rattle.machine.specs.declared.State.{State}
 use Rattle.machine.specs.Machine.{Machine, machine}
 use Rattle.machine.proofs.Opened.{machinery}
+use Rattle.machine.proofs.Samples.{groups, parts, sameMachine}
 use Rattle.reset.specs.Reset.{resetState, cycle, resetPages, resetMachine}
-use Rattle.image.specs.Image.{wordAt, longAt, countOf, entryAt, wordsBefore, tableEnd, bodyAt, wordsFrom, numberOf, asked, andThen, targetSize, endOf, share, sharesEarlier, entryAnswer, entriesAnswer, imageAnswer, admission, answerOf, controlOf, withControl, withWords, withBody, withBodies, loaded, left}
+use Rattle.image.specs.Image.{wordAt, longAt, countOf, entryAt, wordsBefore, tableEnd, bodyAt, wordsFrom, numberOf, asked, unlessRefused, targetSize, endOf, share, sharesEarlier, entryAnswer, entriesAnswer, imageAnswer, admission, answerOf, controlOf, withControl, withWords, withBody, withBodies, loaded, afterLoading}
 
 -- ---- machines
-
-abbrev equal : List ℕ → List ℕ → Bool
-equal [] [] = true
-equal [] (y ∷ ys) = false
-equal (x ∷ xs) [] = false
-equal (x ∷ xs) (y ∷ ys) = eqb x y && equal xs ys
-
-abbrev bitOf : Bool → ℕ
-bitOf b = cond b 1 0
-
--- R0 to R15, IC, SW, MK, PI, FT, enabled, hold, timers A and B, their running marks, the counter
-abbrev shown : State → List ℕ
-shown s = s .regs ++ (s .ic ∷ s .sw ∷ s .mk ∷ s .pi ∷ s .ft ∷ bitOf (s .enabled) ∷ bitOf (s .hold) ∷ s .ta ∷ s .tb ∷ bitOf (s .taon) ∷ bitOf (s .tbon) ∷ s .count ∷ [])
 
 -- a state and a machine in which nothing is as reset leaves it
 abbrev used : State
@@ -31,11 +20,6 @@ used = record { regs = replicate 16 1; ic = 2; sw = 3; mk = 4; pi = 5; ft = 6; e
 
 abbrev given : ℕ → ℕ → ℕ → Machine
 given memory pages ports = machine used (replicate memory 10) (replicate pages 16) (replicate ports 12)
-
--- the page numbers of the registers, 32 groups of sixteen
-abbrev groups : ℕ → List ℕ
-groups zero = []
-groups (suc n) = 0 ∷ 1 ∷ 2 ∷ 3 ∷ 4 ∷ 5 ∷ 6 ∷ 7 ∷ 8 ∷ 9 ∷ 10 ∷ 11 ∷ 12 ∷ 13 ∷ 14 ∷ 15 ∷ groups n
 
 -- ---- images
 
@@ -72,26 +56,18 @@ pub data Row : Type 0 where
   refuses : ℕ → ℕ → ℕ → List ℕ → ℕ → Row
 
 unfoldable pub right : Row → Bool
-unfolding machinery resetState cycle resetPages resetMachine wordAt longAt countOf entryAt wordsBefore tableEnd bodyAt wordsFrom asked andThen targetSize endOf share sharesEarlier entryAnswer entriesAnswer imageAnswer admission answerOf controlOf withControl withWords withBody withBodies loaded left
+unfolding machinery resetState cycle resetPages resetMachine wordAt longAt countOf entryAt wordsBefore tableEnd bodyAt wordsFrom asked unlessRefused targetSize endOf share sharesEarlier entryAnswer entriesAnswer imageAnswer admission answerOf controlOf withControl withWords withBody withBodies loaded afterLoading
 right (loads memory b ws ps s) =
-    let x = left b (given memory 512 1024) in
+    let x = afterLoading b (given memory 512 1024) in
     eqb (numberOf (answerOf b (given memory 512 1024))) 0
     && (equal (x .memory) (ws ++ replicate (memory - length ws) 0)
     && (equal (x .pages) (ps ++ groups (32 - length ps / 16))
     && (equal (x .ports) (replicate 1024 0)
-    && equal (shown (x .state)) s)))
+    && equal (parts (x .state)) s)))
 right (refuses memory pages ports b n) =
     let y = given memory pages ports in
-    let x = left b y in
-    eqb (numberOf (answerOf b y)) n
-    && (equal (x .memory) (y .memory)
-    && (equal (x .pages) (y .pages)
-    && (equal (x .ports) (y .ports)
-    && equal (shown (x .state)) (shown (y .state)))))
-
-pub all : List Row → Bool
-all [] = true
-all (r ∷ rs) = right r && all rs
+    let x = afterLoading b y in
+    eqb (numberOf (answerOf b y)) n && sameMachine x y
 
 -- the state after reset, but for the first sixteen registers given and IC, SW, MK, PI, FT
 abbrev fresh : List ℕ → List ℕ → List ℕ
@@ -162,6 +138,6 @@ refusals =
 pub rows : List Row
 rows = loadings ++ refusals
 
-pub rows-hold : T (all rows)
-unfolding all right rows loadings refusals
+pub rows-hold : T (allOf right rows)
+unfolding right rows loadings refusals
 rows-hold = tt

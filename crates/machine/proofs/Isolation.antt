@@ -4,7 +4,7 @@ use mathlib.Core.Path.{_≡_, refl, sym, ap, ap₂, _∙_}
 use mathlib.Core.List.{List, [], _∷_}
 use mathlib.Core.Option.{Option, none, some}
 use Rattle.machine.specs.Machine.{Machine, Isa}
-use Rattle.machine.specs.Runs.{answerOf, stepsOf, made, later, firstOr, consUnless, entryWithin, left, answers, after, total, firstEntry, beforeEntry}
+use Rattle.machine.specs.Runs.{answerOf, stepsOf, made, stepsLater, firstOr, consUnless, entryWithin, left, answers, afterRuns, total, firstEntry, beforeEntry}
 use Rattle.machine.specs.Isolation.{Alike, Compared, Found, Findings, Isolated, IsolatedApart, Isolates}
 use Rattle.machine.proofs.RunLaws.{after-steps, entry-steps, before-all}
 use Rattle.machine.proofs.StepLaws.{found-start, compared-again, found-found, Both, both-steps}
@@ -25,13 +25,13 @@ record Before (isa : Isa) (bs : List ℕ) (x y : Machine) : Type 0 where
   before : Findings isa (beforeEntry isa bs x) x y
 
 findings-none : (isa : Isa) (x y : Machine) → Compared x y → Findings isa [] x y
-unfolding answers after
+unfolding answers afterRuns
 findings-none isa x y c = record { replies = refl; found = found-start x y c }
 
 -- what is found of a run, and of those after it, is found of all
 findings-cons : (isa : Isa) (b : ℕ) (bs : List ℕ) (x y : Machine) → Alike x y → Found x y (left isa x b) (left isa y b)
     → Findings isa bs (left isa x b) (left isa y b) → Findings isa (b ∷ bs) x y
-unfolding answers after
+unfolding answers afterRuns
 findings-cons isa b bs x y a f h = record {
   replies = ap₂ _∷_ (answer-same x y a b) (h .replies);
   found = found-found x y _ _ _ _ f (h .found);
@@ -51,7 +51,7 @@ before-cons isa b bs x y c n f ih (some k) e e' = record {
 before-cons isa b bs x y c n f ih none e e' =
     let i : Before isa bs (left isa x b) (left isa y b) = ih _ _ (compared-again x y _ _ c (f e)) in
     record {
-      entry = rw (e, e', n) (ap (later (made y b)) (i .entry));
+      entry = rw (e, e', n) (ap (stepsLater (made y b)) (i .entry));
       runs = rw (e, e') (ap (b ∷_) (i .runs));
       before = rw e (findings-cons isa b _ x y (c .alike) (f e) (i .before));
     }

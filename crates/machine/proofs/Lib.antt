@@ -1,4 +1,4 @@
--- The laws of the processor, property 3, and rows of known cases.
+-- The laws of the processor, property 3 with machines that it compares, and rows of known cases.
 pub mod MachineLaws
 pub mod InterruptLaws
 pub mod SameLaws
@@ -8,4 +8,5 @@ pub mod StepLaws
 pub mod Isolation
 pub mod Opened
 pub mod Samples
+pub mod Differing
 pub mod Rows

@@ -6,18 +6,20 @@ use mathlib.Core.List.{List, [], _∷_, _++_, map}
 use mathlib.Core.Option.{Option, none, some}
 use lib.Dec.{T, eqb, ltb}
 use lib.ListN.{getD, set, replicate}
+use Rattle.choice.proofs.Rows.{equal, flag, allOf}
 use Rattle.page.specs.declared.Span.{Span}
-use Rattle.page.specs.Spans.{blank}
+use Rattle.page.specs.Spans.{sixteenZeros}
 use Rattle.machine.specs.declared.State.{State}
 use Rattle.machine.specs.declared.Instruction.{Instruction}
 use Rattle.machine.specs.declared.Class.{Class}
 use Rattle.machine.specs.declared.Class.the-variants.{User, Supervisor, Executive}
-use Rattle.machine.specs.State.{bit, withIc, withHold}
+use Rattle.bits.specs.Bits.{weight}
+use Rattle.machine.specs.State.{withIc, withHold}
 use Rattle.machine.specs.Machine.{Machine, machine, Isa, Effect, Supervised, done, refused, nextOf, spanFrom}
 use Rattle.decode.specs.Forms.{operationOf}
 use Rattle.machine.specs.Entries.{chosen}
 use Rattle.machine.specs.Step.{ticked, step}
-use Rattle.machine.specs.Runs.{numberOf, admission, answers, after, total, firstEntry, beforeEntry}
+use Rattle.machine.specs.Runs.{numberOf, admission, answers, afterRuns, total, firstEntry, beforeEntry}
 use Rattle.machine.proofs.Opened.{machinery}
 
 -- ---- a small instruction set: a word is its own form, and the second word is the address
@@ -35,34 +37,25 @@ writesOf s i = spanFrom (i .address) (cond (eqb (operationOf (i .form)) 3) 1 (co
 
 -- R0 gets the word read, CS 0101; BEEF is stored
 abbrev executeOf : State → Instruction → List ℕ → Effect
-executeOf s i ws = record { regs = set (s .regs) 0 (getD ws 0 0); ic = nextOf s i; cs = 5; pi = s .pi; words = set blank 0 0xBEEF }
+executeOf s i ws = record { regs = set (s .regs) 0 (getD ws 0 0); ic = nextOf s i; cs = 5; pi = s .pi; words = set sixteenZeros 0 0xBEEF }
 
 abbrev superviseOf : State → List ℕ → List ℕ → Instruction → List ℕ → Supervised
 superviseOf s g o i ws =
     cond (ltb (i .address) 0x8000) (done (record { state = withHold (withIc s (nextOf s i)) true; pages = set g 0 (i .address); ports = set o 0 (i .address) }))
-    (refused (bit 5))
+    (refused (weight 5))
 
 abbrev small : Isa
 small = record { decode = λ w. w; class = classOf; base = λ mode s w x. x; reads = readsOf; writes = writesOf; execute = executeOf; supervise = superviseOf }
 
 -- ---- machines
 
-abbrev bitOf : Bool → ℕ
-bitOf b = cond b 1 0
-
-abbrev equal : List ℕ → List ℕ → Bool
-equal [] [] = true
-equal [] (y ∷ ys) = false
-equal (x ∷ xs) [] = false
-equal (x ∷ xs) (y ∷ ys) = eqb x y && equal xs ys
-
 -- IC, SW, MK, PI, enabled, hold; FT is 1, R15 is 15, timer A at 30 runs, timer B at 40 does not, and the counter is 9
 abbrev state : ℕ → ℕ → ℕ → ℕ → Bool → Bool → State
-state ic sw mk pi enabled hold = record { regs = set blank 15 15; ic = ic; sw = sw; mk = mk; pi = pi; ft = 1; enabled = enabled; hold = hold; ta = 30; tb = 40; taon = true; tbon = false; count = 9 }
+state ic sw mk pi enabled hold = record { regs = set sixteenZeros 15 15; ic = ic; sw = sw; mk = mk; pi = pi; ft = 1; enabled = enabled; hold = hold; ta = 30; tb = 40; taon = true; tbon = false; count = 9 }
 
 -- what every step makes of the rest: the counter and timer A rise, the rest stays
 abbrev restRight : State → Bool
-restRight s = equal (getD (s .regs) 15 0 ∷ s .ta ∷ s .tb ∷ bitOf (s .taon) ∷ bitOf (s .tbon) ∷ s .count ∷ []) (15 ∷ 31 ∷ 40 ∷ 1 ∷ 0 ∷ 10 ∷ [])
+restRight s = equal (getD (s .regs) 15 0 ∷ s .ta ∷ s .tb ∷ flag (s .taon) ∷ flag (s .tbon) ∷ s .count ∷ []) (15 ∷ 31 ∷ 40 ∷ 1 ∷ 0 ∷ 10 ∷ [])
 
 -- PI, timers A and B, their marks, the counter
 abbrev timed : ℕ → ℕ → ℕ → Bool → Bool → ℕ → State
@@ -79,7 +72,7 @@ wordsAt n ws = filled n 0 ws
 -- IC, SW, MK, PI, FT, enabled, hold, R0, page register 0, port 0, and the words at some addresses
 abbrev shown : List ℕ → Machine → List ℕ
 shown places x =
-    x .state .ic ∷ x .state .sw ∷ x .state .mk ∷ x .state .pi ∷ x .state .ft ∷ bitOf (x .state .enabled) ∷ bitOf (x .state .hold)
+    x .state .ic ∷ x .state .sw ∷ x .state .mk ∷ x .state .pi ∷ x .state .ft ∷ flag (x .state .enabled) ∷ flag (x .state .hold)
     ∷ getD (x .state .regs) 0 0 ∷ getD (x .pages) 0 0 ∷ getD (x .ports) 0 0 ∷ map (λ a. getD (x .memory) a 0) places
 
 -- the number of a step, the first being 1
@@ -111,11 +104,7 @@ right (asking memory pages ports count budget n) = eqb (numberOf (admission memo
 right (stepping s m ps places r) = let x = step small (machine s m (filled 512 0xF000 ps) (replicate 4 0)) in equal (shown places x) r && restRight (x .state)
 right (running s w bs r before) =
     let x = machine s (wordsAt 4096 ((0, w) ∷ [])) (replicate 512 0xF000) (replicate 1024 0) in
-    equal (total small bs x ∷ stepOf (firstEntry small bs x) ∷ map numberOf (answers small bs x)) r && (equal (beforeEntry small bs x) before && eqb (after small bs x .state .count) (s .count + total small bs x))
-
-pub all : List Row → Bool
-all [] = true
-all (r ∷ rs) = right r && all rs
+    equal (total small bs x ∷ stepOf (firstEntry small bs x) ∷ map numberOf (answers small bs x)) r && (equal (beforeEntry small bs x) before && eqb (afterRuns small bs x .state .count) (s .count + total small bs x))
 
 pub choices : List Row
 choices =
@@ -248,6 +237,6 @@ runs =
 pub rows : List Row
 rows = choices ++ ticks ++ checks ++ entries ++ instructions ++ runs
 
-pub rows-hold : T (all rows)
-unfolding all right rows choices ticks checks entries instructions runs
+pub rows-hold : T (allOf right rows)
+unfolding right rows choices ticks checks entries instructions runs
 rows-hold = tt

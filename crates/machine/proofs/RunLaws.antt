@@ -10,15 +10,15 @@ use native.Mathlib.Nat.{zero-add, suc-add}
 use borrow.Author.Tests.{ne-eqb}
 use Rattle.machine.specs.Machine.{Machine, Isa}
 use Rattle.machine.specs.Step.{isEntry, action, step}
-use Rattle.machine.specs.Runs.{numberOf, answerOf, stepsOf, made, hereOr, later, firstOr, consUnless, steps, entryWithin, left, after, total, firstEntry, beforeEntry}
+use Rattle.machine.specs.Runs.{numberOf, answerOf, stepsOf, made, hereOr, stepsLater, firstOr, consUnless, steps, entryWithin, left, afterRuns, total, firstEntry, beforeEntry}
 
 -- ---- the number of a step
 
 pub some≢none : {A : Type 0} (k : ℕ) → some k ≡ none → A
 some≢none k e = let z : _≡_ {A = ℕ} 0 1 = cc in absurd (omega arith)
 
-pub later-none : (n : ℕ) (r : Option ℕ) → later n r ≡ none → r ≡ none
-unfolding later
+pub later-none : (n : ℕ) (r : Option ℕ) → stepsLater n r ≡ none → r ≡ none
+unfolding stepsLater
 later-none n none e = refl
 later-none n (some k) e = some≢none (n + k) e
 
@@ -40,13 +40,13 @@ unfolding steps
 steps-add isa zero k x = rw zero-add
 steps-add isa (suc n) k x = rw suc-add (steps-add isa n k (step isa x))
 
-later-zero : (r : Option ℕ) → later 0 r ≡ r
-unfolding later
+later-zero : (r : Option ℕ) → stepsLater 0 r ≡ r
+unfolding stepsLater
 later-zero none = refl
 later-zero (some k) = ap some (zero-add k)
 
-later-suc : (n : ℕ) (e r : Option ℕ) → later 1 (firstOr e (later n r)) ≡ firstOr (later 1 e) (later (suc n) r)
-unfolding later firstOr
+later-suc : (n : ℕ) (e r : Option ℕ) → stepsLater 1 (firstOr e (stepsLater n r)) ≡ firstOr (stepsLater 1 e) (stepsLater (suc n) r)
+unfolding stepsLater firstOr
 later-suc n none none = refl
 later-suc n none (some k) = ap some (omega arith)
 later-suc n (some j) r = refl
@@ -56,17 +56,17 @@ unfolding hereOr firstOr
 hereOr-first true e r = refl
 hereOr-first false e r = refl
 
-pub entry-add : (isa : Isa) (n k : ℕ) (x : Machine) → entryWithin isa (n + k) x ≡ firstOr (entryWithin isa n x) (later n (entryWithin isa k (steps isa n x)))
+pub entry-add : (isa : Isa) (n k : ℕ) (x : Machine) → entryWithin isa (n + k) x ≡ firstOr (entryWithin isa n x) (stepsLater n (entryWithin isa k (steps isa n x)))
 unfolding entryWithin steps firstOr
 entry-add isa zero k x = rw (zero-add, later-zero)
 entry-add isa (suc n) k x =
-    rw suc-add (ap (hereOr (isEntry (action isa x))) (ap (later 1) (entry-add isa n k (step isa x)) ∙ later-suc n (entryWithin isa n (step isa x)) (entryWithin isa k (steps isa n (step isa x))))
+    rw suc-add (ap (hereOr (isEntry (action isa x))) (ap (stepsLater 1) (entry-add isa n k (step isa x)) ∙ later-suc n (entryWithin isa n (step isa x)) (entryWithin isa k (steps isa n (step isa x))))
     ∙ hereOr-first (isEntry (action isa x)) _ _)
 
 -- ---- a list of runs is its steps
 
-pub after-steps : (isa : Isa) (bs : List ℕ) (x : Machine) → after isa bs x ≡ steps isa (total isa bs x) x
-unfolding after total left steps
+pub after-steps : (isa : Isa) (bs : List ℕ) (x : Machine) → afterRuns isa bs x ≡ steps isa (total isa bs x) x
+unfolding afterRuns total left steps
 after-steps isa [] x = refl
 after-steps isa (b ∷ bs) x = after-steps isa bs (left isa x b) ∙ sym (steps-add isa (made x b) (total isa bs (left isa x b)) x)
 
@@ -74,7 +74,7 @@ pub entry-steps : (isa : Isa) (bs : List ℕ) (x : Machine) → firstEntry isa b
 unfolding firstEntry total left entryWithin
 entry-steps isa [] x = refl
 entry-steps isa (b ∷ bs) x =
-    ap (λ (r : Option ℕ). firstOr (entryWithin isa (made x b) x) (later (made x b) r)) (entry-steps isa bs (left isa x b))
+    ap (λ (r : Option ℕ). firstOr (entryWithin isa (made x b) x) (stepsLater (made x b) r)) (entry-steps isa bs (left isa x b))
     ∙ sym (entry-add isa (made x b) (total isa bs (left isa x b)) x)
 
 -- ---- the runs before the one in which the first entry occurs
@@ -86,7 +86,7 @@ before-all isa [] x h = refl
 before-all isa (b ∷ bs) x h = go (entryWithin isa (made x b) x) (before-all isa bs (left isa x b)) h
   where
     go : (r : Option ℕ) → (firstEntry isa bs (left isa x b) ≡ none → beforeEntry isa bs (left isa x b) ≡ bs)
-        → firstOr r (later (made x b) (firstEntry isa bs (left isa x b))) ≡ none → consUnless r b (beforeEntry isa bs (left isa x b)) ≡ b ∷ bs
+        → firstOr r (stepsLater (made x b) (firstEntry isa bs (left isa x b))) ≡ none → consUnless r b (beforeEntry isa bs (left isa x b)) ≡ b ∷ bs
     go none ih e = ap (b ∷_) (ih (later-none _ _ e))
     go (some k) ih e = some≢none k e
 
@@ -96,17 +96,17 @@ pub record Split (isa : Isa) (bs : List ℕ) (x : Machine) : Type 0 where
   pub rest : List ℕ
   pub split : bs ≡ beforeEntry isa bs x ++ (next ∷ rest)
   pub clear : firstEntry isa (beforeEntry isa bs x) x ≡ none
-  pub inside : firstEntry isa (next ∷ []) (after isa (beforeEntry isa bs x) x) ≢ none
+  pub inside : firstEntry isa (next ∷ []) (afterRuns isa (beforeEntry isa bs x) x) ≢ none
 
 split-cons : (isa : Isa) (b : ℕ) (bs : List ℕ) (x : Machine) → (firstEntry isa bs (left isa x b) ≢ none → Split isa bs (left isa x b))
     → (r : Option ℕ) → entryWithin isa (made x b) x ≡ r → firstEntry isa (b ∷ bs) x ≢ none → Split isa (b ∷ bs) x
-unfolding firstEntry beforeEntry firstOr consUnless after later
+unfolding firstEntry beforeEntry firstOr consUnless afterRuns stepsLater
 split-cons isa b bs x ih (some k) e h = record {
   next = b;
   rest = bs;
   split = rw e refl;
   clear = rw e refl;
-  inside = rw (e, after, e) (λ z. some≢none k z);
+  inside = rw (e, afterRuns, e) (λ z. some≢none k z);
 }
 split-cons isa b bs x ih none e h =
     let s : Split isa bs (left isa x b) = ih (λ z. h (rw (e, z) refl)) in
@@ -115,7 +115,7 @@ split-cons isa b bs x ih none e h =
       rest = s .rest;
       split = rw e (ap (b ∷_) (s .split));
       clear = rw (e, firstEntry, e, s .clear) refl;
-      inside = rw (e, after) (s .inside);
+      inside = rw (e, afterRuns) (s .inside);
     }
 
 pub before-split : (isa : Isa) (bs : List ℕ) (x : Machine) → firstEntry isa bs x ≢ none → Split isa bs x

@@ -17,7 +17,7 @@ use Rattle.machine.specs.Machine.{Machine, machine, Isa}
 use Rattle.machine.specs.Instructions.{Action, enter, call, fail, affect, govern, View}
 use Rattle.machine.specs.Entries.{chosen}
 use Rattle.machine.specs.Step.{released, faulted, affected, stored, perform, ticked, tick, isEntry, begun, action, step}
-use Rattle.machine.specs.Runs.{steps, entryWithin, hereOr, later}
+use Rattle.machine.specs.Runs.{steps, entryWithin, hereOr, stepsLater}
 use Rattle.machine.specs.Isolation.{Alike, key, group, Compared, Found}
 use Rattle.page.proofs.ReachLaws.{written-barred}
 use Rattle.machine.proofs.SameLaws.{Same, written-same}
@@ -151,7 +151,7 @@ both-suc isa n x y c ih false e =
     let f : Found x y (step isa x) (step isa y) = step-found isa x y c e in
     let b : Both isa n (step isa x) (step isa y) = ih (step isa x) (step isa y) (compared-again x y _ _ c f) in
     record {
-      entry = rw (← action-same isa x y c, e) (ap (later 1) (b .entry));
+      entry = rw (← action-same isa x y c, e) (ap (stepsLater 1) (b .entry));
       found = λ h. found-found x y _ _ _ _ f (b .found (later-none 1 _ (rw e at h)));
     }
 

@@ -1,7 +1,7 @@
 -- Two machines compared (the Scope's section of that name; property 3): what is assumed of them, and what is found after a list of runs.
 -- Of the section's sentences, these are elsewhere: what a key may fetch, read or write, where a register missing from a short list lets nothing
 -- through, is `May` of the crate `page`; an entry is `isEntry` in Step; that each run gets what the one before left, an answer, and the count of
--- steps over the whole list are `after`, `answers` and `firstEntry` in Runs. Assumes nothing.
+-- steps over the whole list are `afterRuns`, `answers` and `firstEntry` in Runs. Assumes nothing.
 use Prim.Native.Nat.{ℕ}
 use mathlib.Core.Path.{_≡_}
 use mathlib.Core.Logic.{_≢_}
@@ -12,7 +12,7 @@ use Rattle.page.specs.declared.Access.the-variants.{Write}
 use Rattle.page.specs.Pages.{May, MaySee}
 use Rattle.machine.specs.State.{keyOf, groupOf}
 use Rattle.machine.specs.Machine.{Machine, Isa}
-use Rattle.machine.specs.Runs.{answers, after, total, firstEntry, beforeEntry}
+use Rattle.machine.specs.Runs.{answers, afterRuns, total, firstEntry, beforeEntry}
 
 -- alike (the Scope's term): every part of the state, all page registers and all ports are equal, and the memories are of one size
 pub record Alike (x y : Machine) : Type 0 where
@@ -57,7 +57,7 @@ pub record Found (x y x' y' : Machine) : Type 0 where
 -- the findings of a list of runs: the same answers, run by run, and the above of what the runs leave
 pub record Findings (isa : Isa) (bs : List ℕ) (x y : Machine) : Type 0 where
   pub replies : answers isa bs x ≡ answers isa bs y
-  pub found : Found x y (after isa bs x) (after isa bs y)
+  pub found : Found x y (afterRuns isa bs x) (afterRuns isa bs y)
 
 -- one claim about a list of runs, with the budgets bs
 pub record Isolated (isa : Isa) (bs : List ℕ) (x y : Machine) : Type 0 where
@@ -72,7 +72,7 @@ pub record Isolated (isa : Isa) (bs : List ℕ) (x y : Machine) : Type 0 where
 -- two lists of unequal budgets leave the same findings, answers aside
 pub record IsolatedApart (isa : Isa) (bs cs : List ℕ) (x y : Machine) : Type 0 where
   pub entry : firstEntry isa bs x ≡ firstEntry isa cs y
-  pub found : firstEntry isa bs x ≡ none → Found x y (after isa bs x) (after isa cs y)
+  pub found : firstEntry isa bs x ≡ none → Found x y (afterRuns isa bs x) (afterRuns isa cs y)
 
 -- Property 3 of the machine with an instruction set: for every list of runs, and for lists of unequal budgets that make equally many steps
 pub record Isolates (isa : Isa) : Type 0 where

@@ -60,9 +60,9 @@ hereOr true r = some 0
 hereOr false r = r
 
 -- n steps later
-unfoldable pub later : ℕ → Option ℕ → Option ℕ
-later n none = none
-later n (some k) = some (n + k)
+unfoldable pub stepsLater : ℕ → Option ℕ → Option ℕ
+stepsLater n none = none
+stepsLater n (some k) = some (n + k)
 
 -- the first of two
 unfoldable pub firstOr : Option ℕ → Option ℕ → Option ℕ
@@ -83,7 +83,7 @@ module _ (isa : Isa) where
   -- the first entry among n steps
   unfoldable pub entryWithin : ℕ → Machine → Option ℕ
   entryWithin zero x = none
-  entryWithin (suc n) x = hereOr (isEntry (action isa x)) (later 1 (entryWithin n (step isa x)))
+  entryWithin (suc n) x = hereOr (isEntry (action isa x)) (stepsLater 1 (entryWithin n (step isa x)))
 
   -- what a run of budget b leaves
   unfoldable pub left : Machine → ℕ → Machine
@@ -97,9 +97,9 @@ module _ (isa : Isa) where
   answers (b ∷ bs) x = answerOf x b ∷ answers bs (left x b)
 
   -- what the last one leaves
-  unfoldable pub after : List ℕ → Machine → Machine
-  after [] x = x
-  after (b ∷ bs) x = after bs (left x b)
+  unfoldable pub afterRuns : List ℕ → Machine → Machine
+  afterRuns [] x = x
+  afterRuns (b ∷ bs) x = afterRuns bs (left x b)
 
   -- all their steps
   unfoldable pub total : List ℕ → Machine → ℕ
@@ -109,7 +109,7 @@ module _ (isa : Isa) where
   -- the first entry, its steps counted over the whole list
   unfoldable pub firstEntry : List ℕ → Machine → Option ℕ
   firstEntry [] x = none
-  firstEntry (b ∷ bs) x = firstOr (entryWithin (made x b) x) (later (made x b) (firstEntry bs (left x b)))
+  firstEntry (b ∷ bs) x = firstOr (entryWithin (made x b) x) (stepsLater (made x b) (firstEntry bs (left x b)))
 
   -- the runs before the one in which the first entry occurs; all of them where there is none
   unfoldable pub beforeEntry : List ℕ → Machine → List ℕ

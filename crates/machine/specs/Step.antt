@@ -9,7 +9,8 @@ use Rattle.page.specs.declared.Span.{Span}
 use Rattle.page.specs.Spans.{wrapped, written}
 use Rattle.machine.specs.declared.State.{State}
 use Rattle.machine.specs.declared.Vector.{Vector}
-use Rattle.machine.specs.State.{bit, keyOf, groupOf, withCs, advanced, withRegs, withIc, withSw, withPi, withFt, withHold, withTa, withTb, withCount}
+use Rattle.bits.specs.Bits.{weight}
+use Rattle.machine.specs.State.{keyOf, groupOf, withCs, advanced, withRegs, withIc, withSw, withPi, withFt, withHold, withTa, withTb, withCount}
 use Rattle.machine.specs.Machine.{Machine, machine, Isa, Effect}
 use Rattle.machine.specs.Instructions.{Action, enter, call, fail, affect, govern, View, view, instructed}
 use Rattle.machine.specs.Entries.{chosen, vectorOf, callOf, linked, linkStored, refusalOf, arrived}
@@ -22,7 +23,7 @@ released s = withHold s false
 
 -- a fault sets its FT bit b and PI bit 1; of the instruction nothing but IC is left
 unfoldable pub faulted : State → ℕ → ℕ → State
-faulted s b a = withFt (withPi (withIc s a) (bitOr (s .pi) (bit 1))) (bitOr (s .ft) b)
+faulted s b a = withFt (withPi (withIc s a) (bitOr (s .pi) (weight 1))) (bitOr (s .ft) b)
 
 -- a user's effect: of SW it changes CS alone
 unfoldable pub affected : State → Effect → State
@@ -62,7 +63,7 @@ risen b t = cond b (wrapped (t + 1)) t
 
 -- PI bit n, where a timer passes FFFF to 0000
 unfoldable pub passing : Bool → ℕ → ℕ → ℕ
-passing b t n = cond (b && eqb t 65535) (bit n) 0
+passing b t n = cond (b && eqb t 65535) (weight n) 0
 
 -- the state at the end of a step
 unfoldable pub ticked : State → State

@@ -26,7 +26,8 @@ pub record Settled (c d : Core) : Type 0 where
   pub key-kept : keyOf (d .sw) ≡ keyOf (c .sw)
   pub group-kept : groupOf (d .sw) ≡ groupOf (c .sw)
 
--- what an instruction from the core c says of itself
+-- what an instruction from the core c says of itself. Open, for speed, is when it says so: `settled` and `lagging` may be false where they could be true.
+-- Then the interrupt is chosen anew, from a core that has caught up (`after`): what the steps come to is the same.
 pub record Lasting (c : Core) (r : Moved) : Type 0 where
   pub time-kept : r .lagging ≡ true → SameTime c (r .core)
   pub choice-kept : r .settled ≡ true → Settled c (r .core)

@@ -13,7 +13,7 @@ use clock::time::fault;
 use machine::Core;
 
 // The core after an instruction. Where it is settled, no other interrupt is to be chosen than before, by the same key and address state.
-// Where it is lagging, it lags as before; else it does not lag.
+// Where it is lagging, it lags as before; else it does not lag. Neither mark has to be true (`Lasting`).
 pub struct Moved {
     pub settled: bool,
     pub lagging: bool,
@@ -43,9 +43,10 @@ pub fn weighed(pi: u16, core: Core) -> Moved
     }
 }
 
-// A fault: its FT bit is b, and IC is left at a.
+// A fault: its FT bit is b, and IC is left at a; PI has changed, so the choice of an interrupt is made again.
 pub fn deny(core: Core, b: u16, a: u16) -> Moved
-    ensures { λ r. ⌜ (r .lagging ≡ true) × ((n : ℕ) (regs : List ℕ) → later n (joined (r .core) regs) ≡ faulted (later n (joined core regs)) b a) × Lasting core r ⌝ }
+    ensures { λ r. ⌜ (r .lagging ≡ true) × ((n : ℕ) (regs : List ℕ) → later n (joined (r .core) regs) ≡ faulted (later n (joined core regs)) b a) × Lasting core r
+        × (r .settled ≡ false) ⌝ }
 {
     unsettled(true, fault(core, b, a))
 }

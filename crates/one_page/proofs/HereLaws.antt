@@ -1,26 +1,27 @@
 -- The operations on blocks whose words were all found: their accesses are open, and what they leave. Assumes nothing.
 use Prim.Native.Nat.{ℕ, zero, suc, _+_, _-_, _%_, _≤_, _<_}
-use mathlib.Core.Path.{_≡_, refl, sym, ap, subst, _∙_}
+use mathlib.Core.Path.{_≡_, refl, sym, ap, _∙_}
 use mathlib.Core.Bool.{Bool, true, false, cond, false≢true}
 use mathlib.Core.List.{List, [], _∷_}
 use native.Mathlib.Omega.{arith}
 use native.Mathlib.Numerals.{add-one, sub-one}
 use native.Mathlib.Nat.{add-suc, suc-add, add-zero, zero-add}
-use lib.Dec.{eqb}
-use borrow.Author.Tests.{eqb-false}
+use lib.Dec.{eqb, ltb}
+use borrow.Author.Tests.{eqb-false, ltb-false}
 use lib.ListN.{getD, set, take, drop, length, length-drop}
 use lib.Seq.{length-take-le, getD-take, getD-drop, ext-getD}
 use Rattle.page.specs.declared.Span.{Span}
 use Rattle.page.specs.declared.Access.{Access}
 use Rattle.page.specs.declared.Access.the-variants.{Read, Write}
 use Rattle.page.specs.declared.Place.{Place}
-use Rattle.page.specs.declared.Place.the-variants.{At}
+use Rattle.page.specs.declared.Place.the-variants.{At, Refused}
 use Rattle.page.specs.declared.Verdict.the-variants.{Clear}
 use Rattle.page.specs.Pages.{lookup}
 use Rattle.page.specs.Spans.{wrapped, gotAt, wordOf, putAt, andThen, passed, checkedFrom, checked, readFrom, wordsOf, writtenFrom, written}
 use Rattle.page.proofs.SpanLaws.{taken}
+use Rattle.page.proofs.ReachLaws.{OnPlace}
 use Rattle.page.proofs.EachLaws.{along, words-length}
-use Rattle.page.proofs.NearLaws.{Found, found-clear, words-at, found-up, found-down}
+use Rattle.page.proofs.NearLaws.{Found, found-inside, found-clear, words-at, found-up, found-down}
 use Rattle.decode.specs.Forms.{modeOf, operationOf}
 use Rattle.machine.specs.declared.State.{State}
 use Rattle.machine.specs.declared.Instruction.{Instruction}
@@ -35,7 +36,7 @@ use Rattle.isa.specs.Blocks.{rearranged, loadedAll, poppedFrom, poppedAll, move
 use Rattle.isa.specs.Mil1750.{contextOf}
 use Rattle.isa.specs.Execute.{executed}
 use Rattle.rearrange.specs.Operation.{Finished, Attempted}
-use Rattle.one_page.specs.Rows.{RowAt, upwards, downwards, storedAt}
+use Rattle.one_page.specs.Rows.{fitting, rowOf, upwards, downwards, storedAt}
 use Rattle.rearrange.proofs.BlockLaws.{none-chosen, operand-unwritten}
 
 -- ---- an attempt, by its mark
@@ -47,7 +48,7 @@ module _ (s : State) (m g : List ℕ) (n : Instruction) (t : State) (w : List �
 
   pub attempt-left : (b : Bool) → b ≡ false → Attempted b s m g n t w → (t .regs ≡ s .regs) × (w ≡ m)
   attempt-left true h a = absurd (false≢true (sym h))
-  attempt-left false h a = a
+  attempt-left false h a = (ap (λ (x : State). x .regs) (a .0), a .1)
 
 -- ---- an operation whose accesses are open and whose effect is e
 
@@ -159,8 +160,30 @@ module _ (key group : ℕ) (g : List ℕ) (size : ℕ) (n : Instruction) where
 
 -- ---- a row that was found
 
-pub row-found : (k : Access) (key group : ℕ) (g : List ℕ) (size a count : ℕ) (q : Place) (p : ℕ) → RowAt k key group g size a count q → q ≡ At p → RowAt k key group g size a count (At p)
-row-found k key group g size a count q p r e = subst (RowAt k key group g size a count) e r
+-- p is the place of the first of count words from the logical address a on, which are all of one page and inside the memory
+abbrev pub RowAt : Access → ℕ → ℕ → List ℕ → ℕ → ℕ → ℕ → ℕ → Type 0
+RowAt k key group g size a count p = (lookup k key group g size a ≡ At p) × (a % 4096 + count ≤ 4096) × (p + count ≤ size)
+
+module _ (k : Access) (key group : ℕ) (g : List ℕ) (size a count : ℕ) where
+  row-fits : a % 4096 + count ≤ 4096 → (q : Place) → lookup k key group g size a ≡ q → OnPlace (RowAt k key group g size a count) (fitting size count q)
+  unfolding fitting
+  row-fits l (At p) e = by (ltb (size - p) count) refl
+    where
+      by : (b : Bool) → ltb (size - p) count ≡ b → OnPlace (RowAt k key group g size a count) (cond b (Refused 0) (At p))
+      by true h = tt
+      by false h = (e, l, omega (arith, ltb-false (size - p) count h, found-inside k key group g size a p e))
+  row-fits l (Refused b) e = tt
+
+  row-placed : OnPlace (RowAt k key group g size a count) (rowOf k key group g size a count)
+  unfolding rowOf
+  row-placed = by (ltb 4096 (a % 4096 + count)) refl
+    where
+      by : (b : Bool) → ltb 4096 (a % 4096 + count) ≡ b → OnPlace (RowAt k key group g size a count) (cond b (Refused 0) (fitting size count (lookup k key group g size a)))
+      by true h = tt
+      by false h = row-fits (ltb-false 4096 (a % 4096 + count) h) _ refl
+
+  pub row-found : (q : Place) (p : ℕ) → q ≡ rowOf k key group g size a count → q ≡ At p → RowAt k key group g size a count p
+  row-found q p e f = rw (← e, f) at row-placed
 
 field-few : (w : ℕ) → fieldA w + 1 ≤ 16
 unfolding fieldA
@@ -173,7 +196,7 @@ registers-few a b = omega arith
 module _ (s : State) (m g : List ℕ) (n : Instruction) where
   -- ---- LM
 
-  pub loaded-here : operationOf (n .form) ≡ 40 → (p : ℕ) → RowAt Read (keyOf (s .sw)) (groupOf (s .sw)) g (length m) (n .address) (fieldA (n .first) + 1) (At p)
+  pub loaded-here : operationOf (n .form) ≡ 40 → (p : ℕ) → RowAt Read (keyOf (s .sw)) (groupOf (s .sw)) g (length m) (n .address) (fieldA (n .first) + 1) p
       → (t : State) (w : List ℕ) → t ≡ affected s (loadedAll (contextOf s) n (drop p m)) → w ≡ m → Finished s m g n t w
   unfolding readsOf writesOf allFrom wordsWritten executed loadedAll rearranged
   loaded-here o p r t w h i =
@@ -189,7 +212,7 @@ module _ (s : State) (m g : List ℕ) (n : Instruction) where
 
   -- ---- POPM
 
-  pub popped-here : operationOf (n .form) ≡ 44 → (p : ℕ) → RowAt Read (keyOf (s .sw)) (groupOf (s .sw)) g (length m) (register (s .regs) 15) (registersFrom (fieldA (n .first)) (fieldB (n .first))) (At p)
+  pub popped-here : operationOf (n .form) ≡ 44 → (p : ℕ) → RowAt Read (keyOf (s .sw)) (groupOf (s .sw)) g (length m) (register (s .regs) 15) (registersFrom (fieldA (n .first)) (fieldB (n .first))) p
       → (t : State) (w : List ℕ) → t ≡ affected s (poppedAll (contextOf s) n (drop p m)) → w ≡ m → Finished s m g n t w
   unfolding readsOf writesOf poppedSpan wordsWritten executed poppedAll rearranged contextOf
   popped-here o p r t w h i =
@@ -207,7 +230,7 @@ module _ (s : State) (m g : List ℕ) (n : Instruction) where
 
   -- ---- STM
 
-  pub stored-here : operationOf (n .form) ≡ 50 → (p : ℕ) → RowAt Write (keyOf (s .sw)) (groupOf (s .sw)) g (length m) (n .address) (fieldA (n .first) + 1) (At p)
+  pub stored-here : operationOf (n .form) ≡ 50 → (p : ℕ) → RowAt Write (keyOf (s .sw)) (groupOf (s .sw)) g (length m) (n .address) (fieldA (n .first) + 1) p
       → (t : State) (w : List ℕ) → t ≡ affected s (storedAll (contextOf s) n) → w ≡ storedAt (upwards p) (s .regs) (fieldA (n .first) + 1) 0 m → Finished s m g n t w
   unfolding readsOf writesOf allFrom wordsRead wordsMoved executed storedAll rearranged contextOf
   stored-here o p r t w h i =

@@ -1,17 +1,22 @@
 -- Words that lie one after another in memory. Assumes nothing.
-use Prim.Native.Nat.{ℕ, zero, suc, _+_, _-_, _%_, _≤_}
-use mathlib.Core.Path.{_≡_}
+use Prim.Native.Nat.{ℕ, zero, suc, _+_, _-_, _%_}
+use mathlib.Core.Bool.{cond}
 use mathlib.Core.List.{List}
+use lib.Dec.{ltb}
 use lib.ListN.{getD, set}
 use Rattle.page.specs.declared.Access.{Access}
 use Rattle.page.specs.declared.Place.{Place}
 use Rattle.page.specs.declared.Place.the-variants.{At, Refused}
 use Rattle.page.specs.Pages.{lookup}
 
--- a place, if there is one, is that of the first of count words from the logical address a on, which are all of one page and inside the memory
-abbrev pub RowAt : Access → ℕ → ℕ → List ℕ → ℕ → ℕ → ℕ → Place → Type 0
-RowAt k key group g size a count (At p) = (lookup k key group g size a ≡ At p) × (a % 4096 + count ≤ 4096) × (p + count ≤ size)
-RowAt k key group g size a count (Refused b) = Unit {0}
+-- the place p of the first of count words, where all of them are inside the memory; else they are left, by no bit of FT
+unfoldable pub fitting : ℕ → ℕ → Place → Place
+fitting size count (At p) = cond (ltb (size - p) count) (Refused 0) (At p)
+fitting size count (Refused b) = Refused 0
+
+-- the place of the first of count words from the logical address a on, where all of them are of one page, open and inside the memory
+unfoldable pub rowOf : Access → ℕ → ℕ → List ℕ → ℕ → ℕ → ℕ → Place
+rowOf k key group g size a count = cond (ltb 4096 (a % 4096 + count)) (Refused 0) (fitting size count (lookup k key group g size a))
 
 -- the places from p on, by their numbers
 abbrev pub upwards : ℕ → ℕ → ℕ

@@ -206,7 +206,9 @@ fn try_push(
     }
 }
 
-// Any of these operations. XWR, which has no words in memory, and any other is left.
+// Any of these operations. XWR, which has no words in memory, and any other is left. Open, for speed, is whether it is done here: where it is, all its
+// accesses are open and it has worked as defined (`Finished`); where not, core, registers and memory are as they were, and the caller does it
+// word by word. So its caller leaves the same either way.
 pub fn try_block(
     core: Core,
     key: u16,

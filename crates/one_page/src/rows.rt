@@ -3,14 +3,14 @@ ghost use mathlib.Core.Path.{_≡_};
 ghost use Prim.Native.Nat.{_+_, _≤_, _<_};
 ghost use lib.ListN.{length};
 ghost use Rattle.isa.specs.Blocks.{pushedFrom};
-ghost use Rattle.one_page.specs.Rows.{RowAt, upwards, downwards, storedAt};
+ghost use Rattle.one_page.specs.Rows.{rowOf, upwards, downwards, storedAt};
 use block::stores::pushed_word;
 use page::Access;
 use page::Place;
 use page::lookup::look_up;
 
-// Where count words from the logical address a on lie, if all are of one page and inside the memory. Callers have 512 page registers and
-// a group of four bits, and ask for sixteen at most.
+// Where count words from the logical address a on lie, if all are of one page and inside the memory; else a refusal without a bit of FT. Callers have
+// 512 page registers and a group of four bits, and ask for sixteen at most.
 pub(crate) fn find_row(
     access: Access,
     key: u16,
@@ -21,7 +21,7 @@ pub(crate) fn find_row(
     count: u16,
 ) -> Place
     requires { ⌜ (length (now pages) ≡ 512) × (group < 16) × (count ≤ 16) ⌝ }
-    ensures { λ r. ⌜ RowAt access key group (now (pages .entry)) size a count r ⌝ }
+    ensures { λ r. ⌜ r ≡ rowOf access key group (now (pages .entry)) size a count ⌝ }
 {
     if 4096 < a % 4096 + count {
         return Place::Refused(0);

@@ -12,7 +12,7 @@ use lib.ListN.{length, getD, set, take, drop, replicate, length-set, drop-of-len
 use lib.Seq.{paste, paste-zero, paste-suc, length-paste, take-paste, take-all, take-at, getD-append-add}
 use Rattle.packed.specs.Packed.{withSixteen, marked, markAt, marksOf, unpacked, others, packed}
 use Rattle.machine.specs.declared.State.{State}
-use Rattle.machine.specs.State.{bit}
+use Rattle.bits.specs.Bits.{weight}
 
 -- ---- a copy of sixteen words of s into d from word `at` on, after i of them
 
@@ -110,7 +110,7 @@ mark-digit zero h = refl
 mark-digit (suc zero) h = refl
 mark-digit (suc (suc n)) h = absurd (omega arith)
 
-weighs : (on : Bool) (n : ℕ) → markAt on n ≡ bit n * digit on
+weighs : (on : Bool) (n : ℕ) → markAt on n ≡ weight n * digit on
 unfolding digit markAt
 weighs true n = rw mul-one refl
 weighs false n = rw mul-zero refl
@@ -122,12 +122,12 @@ module _ (s : State) where
   marks-digits = omega (arith, weighs (s .enabled) 15, weighs (s .hold) 14, weighs (s .taon) 13, weighs (s .tbon) 12)
 
   -- its bit n, by the number of the mark there
-  marks-at : (n : ℕ) (on : Bool) → marksOf s / bit n % 2 ≡ digit on → marked (marksOf s) n ≡ on
+  marks-at : (n : ℕ) (on : Bool) → marksOf s / weight n % 2 ≡ digit on → marked (marksOf s) n ≡ on
   unfolding marked
   marks-at n on e = rw e (digit-mark on)
 
 -- a bit as a number
-bit-digit : (word n : ℕ) → digit (marked word n) ≡ word / bit n % 2
+bit-digit : (word n : ℕ) → digit (marked word n) ≡ word / weight n % 2
 unfolding marked
 bit-digit word n = mark-digit _ (mod-lt _ (omega arith))
 
@@ -142,7 +142,7 @@ pub unpacked-packed : (s : State) → length (s .regs) ≡ 16 → unpacked (pack
 unfolding unpacked packed others
 unpacked-packed s h =
     let at : (n : ℕ) → getD (packed s) (16 + n) 0 ≡ getD (others s) n 0 = later (s .regs) (others s) h in
-    let mark : (n : ℕ) (on : Bool) → marksOf s / bit n % 2 ≡ digit on → marked (getD (packed s) 21 0) n ≡ on = λ n on e. ap (λ w. marked w n) (at 5) ∙ marks-at s n on e in
+    let mark : (n : ℕ) (on : Bool) → marksOf s / weight n % 2 ≡ digit on → marked (getD (packed s) 21 0) n ≡ on = λ n on e. ap (λ w. marked w n) (at 5) ∙ marks-at s n on e in
     let high = at 8 in
     let low = at 9 in
     let count : 65536 * getD (packed s) 24 0 + getD (packed s) 25 0 ≡ s .count = omega arith in

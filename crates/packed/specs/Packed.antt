@@ -6,7 +6,7 @@ use lib.Dec.{eqb}
 use lib.ListN.{take, getD}
 use lib.Seq.{paste}
 use Rattle.machine.specs.declared.State.{State}
-use Rattle.machine.specs.State.{bit}
+use Rattle.bits.specs.Bits.{weight}
 
 -- the list d with the first sixteen words of s written from word `at` on
 unfoldable pub withSixteen : List ℕ → ℕ → List ℕ → List ℕ
@@ -14,11 +14,11 @@ withSixteen d at s = paste d at s 16
 
 -- whether bit n of a word is one
 unfoldable pub marked : ℕ → ℕ → Bool
-marked word n = eqb (word / bit n % 2) 1
+marked word n = eqb (word / weight n % 2) 1
 
 -- what a mark adds to a word in which it is bit n
 unfoldable pub markAt : Bool → ℕ → ℕ
-markAt on n = cond on (bit n) 0
+markAt on n = cond on (weight n) 0
 
 -- word 21: bit 15 interrupts enabled, bit 14 the hold mark, bit 13 timer A running, bit 12 timer B running
 unfoldable pub marksOf : State → ℕ

@@ -7,9 +7,8 @@ use native.Mathlib.Omega.{arith}
 use native.Mathlib.Numerals.{add-one, sub-one}
 use lib.Bits.{or-zero-r}
 use lib.Dec.{eqb}
-use borrow.Author.Tests.{eqb-true, eqb-false}
-use lib.ListN.{getD, set, take, drop, length}
-use lib.Seq.{drop-cons, getD-set-same, getD-set-other}
+use lib.ListN.{getD, set, take, drop, length, List·getD-append}
+use lib.Seq.{drop-cons, sets, sets-eq}
 use Rattle.page.specs.declared.Span.{Span}
 use Rattle.page.specs.Spans.{wrapped, writtenFrom, written}
 use Rattle.decode.specs.Forms.{modeOf}
@@ -59,14 +58,29 @@ pushed-at regs b zero i j q l e = absurd (omega arith)
 pushed-at regs b (suc k) i zero q l e = let f : q ≡ i = omega arith in rw f refl
 pushed-at regs b (suc k) i (suc j) q l e = pushed-at regs b k (suc i) j q (omega arith) (omega arith)
 
--- the words below i are those of f, and one more
-pub one-more : (f : ℕ → ℕ) (buf : List ℕ) (i w : ℕ) → ((j : ℕ) → j < i → getD buf j 0 ≡ f j) → i < length buf → w ≡ f i
-    → (j : ℕ) → j < i + 1 → getD (set buf i w) j 0 ≡ f j
-one-more f buf i w h l e j m = by (eqb j i) refl
-  where
-    by : (t : Bool) → eqb j i ≡ t → getD (set buf i w) j 0 ≡ f j
-    by true u = let v : j ≡ i = eqb-true j i u in rw v (getD-set-same buf i w 0 l ∙ e)
-    by false u = getD-set-other buf i j w 0 (eqb-false j i u) ∙ h j (let v = eqb-false j i u in omega arith)
+-- k words are left to go into a buffer, the first has the number i
+module _ (regs : List ℕ) (b : ℕ) where
+  pub pushed-none : (k i : ℕ) (buf : List ℕ) → k ≤ 0 → sets buf i (pushedFrom regs b k i) ≡ buf
+  unfolding pushedFrom
+  pushed-none zero i buf h = refl
+  pushed-none (suc k) i buf h = absurd (omega arith)
+
+  pub pushed-step : (k i : ℕ) (buf : List ℕ) → 0 < k → (v : ℕ) → v ≡ pushedWord regs ((16 + b - i) % 16) i → (n : ℕ) → n ≡ k - 1
+      → sets buf i (pushedFrom regs b k i) ≡ sets (set buf i v) (i + 1) (pushedFrom regs b n (i + 1))
+  unfolding pushedFrom
+  pushed-step zero i buf h v e n f = absurd (omega arith)
+  pushed-step (suc k) i buf h v e n f = rw (e, f, sub-one, add-one) refl
+
+  pushed-length : (k i : ℕ) → length (pushedFrom regs b k i) ≡ k
+  unfolding pushedFrom
+  pushed-length zero i = refl
+  pushed-length (suc k) i = ap suc (pushed-length k (suc i))
+
+  -- the first k words of the buffer are those pushed
+  pub pushed-first : (k : ℕ) (buf : List ℕ) → k ≤ length buf → (j : ℕ) → j < k → getD (sets buf 0 (pushedFrom regs b k 0)) j 0 ≡ getD (pushedFrom regs b k 0) j 0
+  pushed-first k buf h j l =
+      let e = pushed-length k 0 in
+      ap (λ x. getD x j 0) (sets-eq (pushedFrom regs b k 0) buf 0 (omega (arith, e))) ∙ List·getD-append (pushedFrom regs b k 0) _ 0 j (omega (arith, e))
 
 -- ---- MOV with a count of zero
 

@@ -32,7 +32,7 @@ pub record Finished (s : State) (m g : List ℕ) (n : Instruction) (t : State) (
   pub admitted : both (checked (keyOf (s .sw)) (groupOf (s .sw)) g (length m) (readsOf (s .regs) n) Read) (checked (keyOf (s .sw)) (groupOf (s .sw)) g (length m) (writesOf (s .regs) n) Write) ≡ Clear
   pub worked : Worked s m g n (executed (contextOf s) n (wordsOf (keyOf (s .sw)) (groupOf (s .sw)) g (length m) (readsOf (s .regs) n) m)) t w
 
--- an attempt is finished, or has left the registers and the memory as they were
+-- an attempt is finished, or has left the state and the memory as they were
 abbrev pub Attempted : Bool → State → List ℕ → List ℕ → Instruction → State → List ℕ → Type 0
 Attempted true s m g n t w = Finished s m g n t w
-Attempted false s m g n t w = (t .regs ≡ s .regs) × (w ≡ m)
+Attempted false s m g n t w = (t ≡ s) × (w ≡ m)

@@ -72,11 +72,18 @@ pub(crate) fn push_stack(regs: &mut [u16; 16], n: Instruction)
     put(regs, 15, less(get(regs, 15), k));
 }
 
-// Register k changes by d.
-fn change(regs: &mut [u16; 16], k: u16, d: u16)
-    ensures { λ r. ⌜ now (regs .exit) ≡ changedBy k d (now (regs .entry)) ⌝ }
+// Register k rises by one.
+fn raise(regs: &mut [u16; 16], k: u16)
+    ensures { λ r. ⌜ now (regs .exit) ≡ changedBy k 1 (now (regs .entry)) ⌝ }
 {
-    put(regs, k, wrapping_add_u16(get(regs, k), d));
+    put(regs, k, wrapping_add_u16(get(regs, k), 1));
+}
+
+// Register k falls by one.
+fn lower(regs: &mut [u16; 16], k: u16)
+    ensures { λ r. ⌜ now (regs .exit) ≡ changedBy k 65535 (now (regs .entry)) ⌝ }
+{
+    put(regs, k, less(get(regs, k), 1));
 }
 
 // MOV: RA and RB rise, and the count in the register after RA falls (5.47). a is a field of four bits.
@@ -84,9 +91,9 @@ pub(crate) fn move_on(regs: &mut [u16; 16], a: u16, b: u16)
     requires { ⌜ a < 16 ⌝ }
     ensures { λ r. ⌜ now (regs .exit) ≡ movedOn (now (regs .entry)) a b ⌝ }
 {
-    change(regs, a, 1);
-    change(regs, b, 1);
-    change(regs, a + 1, 65535);
+    raise(regs, a);
+    raise(regs, b);
+    lower(regs, a + 1);
 }
 
 // XWR: RA and RB exchange their contents; the status of RA's new one (5.90).

@@ -3,6 +3,7 @@ use mathlib.Core.Bool.{Bool, true, false, _&&_, Bool·beq}
 use mathlib.Core.List.{List, [], _∷_}
 use Prim.Native.Nat.{ℕ}
 use lib.Dec.{eqb, T}
+use Rattle.choice.proofs.Rows.{allOf}
 use Rattle.whole.specs.Whole.{signed, wrap, holds, shiftLeft, shiftRight, shiftArith, rotate, signChanges}
 use Rattle.word.specs.Status.{status}
 use Rattle.shift.specs.Shift.{Shifted, countOf, moved, shiftedBy, logicalBy, arithmeticBy, rotateRight, circularBy}
@@ -25,10 +26,6 @@ holdsOf (cyclic w a n r) = eqb (rotate w n a) r
 holdsOf (logically w a count r cs o) = is w (logicalBy w a count) r cs o
 holdsOf (arithmetically w a count r cs o) = is w (arithmeticBy w a count) r cs o
 holdsOf (cyclically w a count r cs o) = is w (circularBy w a count) r cs o
-
-pub all : List Row → Bool
-all [] = true
-all (r ∷ rs) = holdsOf r && all rs
 
 -- the pages' examples, by 4 places, and shifts by 16 (5.10 to 5.17)
 pub fixedRows : List Row
@@ -60,6 +57,6 @@ doubleRows =
     ∷ cyclically 32 0xa5c39678 4 0x5c39678a 4 false ∷ cyclically 32 0xa5c39678 0xfffc 0x8a5c3967 1 false ∷ cyclically 32 0xa5c39678 32 0xa5c39678 1 false
     ∷ cyclically 32 0xa5c39678 0xffe0 0xa5c39678 1 false ∷ cyclically 32 0xa5c39678 33 0xa5c39678 1 true ∷ []
 
-pub rows-hold : T (all fixedRows && all singleRows && all doubleRows)
-unfolding all holdsOf fixedRows singleRows doubleRows
+pub rows-hold : T (allOf holdsOf fixedRows && allOf holdsOf singleRows && allOf holdsOf doubleRows)
+unfolding holdsOf fixedRows singleRows doubleRows
 rows-hold = tt

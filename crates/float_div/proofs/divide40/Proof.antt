@@ -1,15 +1,16 @@
 -- `float_div::divide40` meets its contract. Assumes nothing.
 use borrow.Author.Needs.{needs}
 use mathlib.Core.Path.{_≡_, ap, ap₂, _∙_}
+use mathlib.Core.Bool.{true, false}
 use Prim.Native.Nat.{ℕ, _+_, _≤_, _<_}
 use native.Mathlib.Omega.{arith}
 use lib.Dec.{lit≤, leb}
 use lib.IntN.{natAbs}
 use Rattle.whole.specs.Whole.{signed}
 use Rattle.float.specs.Float.{given}
-use Rattle.exact.specs.Steps.{bit, tail}
-use Rattle.exact.proofs.StepLaws.{magnitude-fits, tail-low, tail-high}
-use Rattle.exact.proofs.ExactLaws.{bit-le, magnitude-zero}
+use Rattle.exact.specs.Steps.{oneIf, tail}
+use Rattle.exact.proofs.StepLaws.{zero-given, magnitude-fits, tail-low, tail-high}
+use Rattle.exact.proofs.ExactLaws.{oneIf-le, magnitude-zero}
 use Rattle.float_div.proofs.QuotientLaws.{quotient-by-zero, quotient-over, quotient-under, quotient-right, quotient-of-zero, quotient-done}
 use Rattle.float_div.proofs.divide40.Statement.{statement}
 use Rattle.float_div.proofs.divide40.Tie as tie
@@ -19,10 +20,10 @@ some : (c : tie.Else1) → 0 < natAbs (signed 40 (c .before .before .args .b))
 some c = magnitude-fits 40 _ (lit≤ tt) (omega (arith, c .if1 .left)) (c .before .before .pre .2) .0
 
 -- n, with one more where the quotient's magnitude is 1.0 or more
-right : (c : tie.After-bit) → let s = c .before .before .before .before .before .before .before in s .args .ea + c .bit .result ≡ s .args .ea + bit (leb (natAbs (signed 40 (s .args .b))) (natAbs (signed 40 (s .args .a))))
+right : (c : tie.After-one-if) → let s = c .before .before .before .before .before .before .before in s .args .ea + c .one-if .result ≡ s .args .ea + oneIf (leb (natAbs (signed 40 (s .args .b))) (natAbs (signed 40 (s .args .a))))
 right c =
     let s = c .before .before .before .before .before .before .before in
-    ap (λ (x : ℕ). s .args .ea + x) (c .bit .ensures ∙ ap₂ (λ (y x : ℕ). bit (leb y x)) (c .before .before .magnitude .ensures) (c .before .magnitude2 .ensures))
+    ap (λ (x : ℕ). s .args .ea + x) (c .one-if .ensures ∙ ap₂ (λ (y x : ℕ). oneIf (leb y x)) (c .before .before .magnitude .ensures) (c .before .magnitude2 .ensures))
 
 returns : tie.Need-returns
 returns c = c .largest .ensures ∙ ap (given 40) (quotient-by-zero 40 _ _ _ _ (c .before .before .signs-differ .ensures) (magnitude-zero 40 _ (c .before .if1 .taken)))
@@ -31,10 +32,10 @@ returns-2 : tie.Need-returns-2
 returns-2 c = let i = c .before .before in c .largest2 .ensures ∙ ap (given 40) (quotient-over 40 _ _ _ _ (i .before .signs-differ .ensures) (some i) (c .before .if2 .taken))
 
 returns-3 : tie.Need-returns-3
-returns-3 c = let i = c .before .before .before in c .zero .ensures ∙ ap (given 40) (quotient-under 40 _ _ _ _ (i .before .signs-differ .ensures) (some i) (c .before .before .if2 .left) (c .before .if3 .taken))
+returns-3 c = let i = c .before .before .before in c .zero .ensures ∙ zero-given true ∙ ap (given 40) (quotient-under 40 _ _ _ _ (i .before .signs-differ .ensures) (some i) (c .before .before .if2 .left) (c .before .if3 .taken))
 
 add-n : tie.Need-add-n
-add-n c = omega (arith, c .bit .ensures, bit-le (leb (c .before .before .magnitude .result) (c .before .magnitude2 .result)))
+add-n c = omega (arith, c .one-if .ensures, oneIf-le (leb (c .before .before .magnitude .result) (c .before .magnitude2 .result)))
 
 returns-4 : tie.Need-returns-4
 returns-4 c =
@@ -48,7 +49,7 @@ returns-5 c =
     let b = c .before .before .before in
     let l = b .before .before .before in
     let i = l .before .before in
-    c .zero2 .ensures ∙ ap (given 40) (quotient-of-zero 40 _ _ _ _ (i .before .signs-differ .ensures) (some i) (l .before .if2 .left) (l .if3 .left) (rw (right b) at (c .before .before .if4 .left)) (magnitude-zero 40 _ (c .before .if5 .taken)))
+    c .zero2 .ensures ∙ zero-given false ∙ ap (given 40) (quotient-of-zero 40 _ _ _ _ (i .before .signs-differ .ensures) (some i) (l .before .if2 .left) (l .if3 .left) (rw (right b) at (c .before .before .if4 .left)) (magnitude-zero 40 _ (c .before .if5 .taken)))
 
 returns-6 : tie.Need-returns-6
 returns-6 c =

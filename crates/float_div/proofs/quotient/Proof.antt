@@ -3,8 +3,8 @@ use borrow.Author.Needs.{needs}
 use Prim.Native.Nat.{ℕ, _+_, _-_, _*_, _/_, _%_, _^_, _≤_, _<_}
 use native.Mathlib.Nat.{mod-lt, div-lt-iff-lt-mul, le-div-iff-mul-le}
 use native.Mathlib.Omega.{arith}
-use Rattle.exact.specs.Steps.{bit}
-use Rattle.exact.proofs.ExactLaws.{bit-le}
+use Rattle.exact.specs.Steps.{oneIf}
+use Rattle.exact.proofs.ExactLaws.{oneIf-le}
 use Rattle.float_div.proofs.QuotientLaws.{long-quotient, quotient-long}
 use Rattle.float_div.proofs.quotient.Statement.{statement}
 use Rattle.float_div.proofs.quotient.Tie as tie
@@ -32,7 +32,7 @@ add-result : tie.Need-add-result
 add-result c =
     let s = c .before in
     let r = step s in
-    omega (arith, digit (s .args .a * 2 ^ 20 % s .args .b * 2 ^ 20 + s .args .b - c .bit .result) (s .args .b) (omega arith) (omega arith))
+    omega (arith, digit (s .args .a * 2 ^ 20 % s .args .b * 2 ^ 20 + s .args .b - c .one-if .result) (s .args .b) (omega arith) (omega arith))
 
 sub-result : tie.Need-sub-result
 sub-result c = omega (arith, step (c .before))
@@ -40,9 +40,9 @@ sub-result c = omega (arith, step (c .before))
 returns : tie.Need-returns
 returns c =
     let s = c .before in
-    let v = bit-le (s .args .neg) in
-    let e = long-quotient (2 ^ 20) (s .args .a) (s .args .b) (bit (s .args .neg)) v (omega arith) (omega arith) in
-    rw (c .bit .ensures) (e, rw e (quotient-long (s .args .a) (s .args .b) (bit (s .args .neg)) v (s .pre .0) (s .pre .2) (s .pre .3)))
+    let v = oneIf-le (s .args .neg) in
+    let e = long-quotient (2 ^ 20) (s .args .a) (s .args .b) (oneIf (s .args .neg)) v (omega arith) (omega arith) in
+    rw (c .one-if .ensures) (e, rw e (quotient-long (s .args .a) (s .args .b) (oneIf (s .args .neg)) v (s .pre .0) (s .pre .2) (s .pre .3)))
 
 pub quotient-spec : {M : Type 1} → statement M
 quotient-spec =

@@ -4,8 +4,8 @@ use Prim.Native.Nat.{_-_, _*_, _/_, _%_, _^_, _≤_, _<_}
 use native.Mathlib.Nat.{mul-le-mul, mul-pos}
 use native.Mathlib.Omega.{arith}
 use lib.Dec.{lit<}
-use Rattle.exact.specs.Steps.{bit}
-use Rattle.exact.proofs.ExactLaws.{bit-le}
+use Rattle.exact.specs.Steps.{oneIf}
+use Rattle.exact.proofs.ExactLaws.{oneIf-le}
 use Rattle.float_mul.proofs.ProductLaws.{long-product, product-long}
 use Rattle.float_mul.proofs.product.Statement.{statement}
 use Rattle.float_mul.proofs.product.Tie as tie
@@ -21,7 +21,7 @@ add-low : tie.Need-add-low
 add-low c = omega (arith, digits c)
 
 sub-low : tie.Need-sub-low
-sub-low c = omega (arith, bit-le (c .before .args .neg))
+sub-low c = omega (arith, oneIf-le (c .before .args .neg))
 
 mul-result : tie.Need-mul-result
 mul-result c = omega (arith, digits (c .before))
@@ -35,9 +35,9 @@ sub-result c = omega (arith, digits (c .before))
 returns : tie.Need-returns
 returns c =
     let s = c .before in
-    let v = bit-le (s .args .neg) in
-    let e = long-product (2 ^ 20) (s .args .a) (s .args .b) (bit (s .args .neg)) v (lit< tt) (mul-pos {m = s .args .a} (omega arith) (omega arith)) in
-    rw (c .bit .ensures) (e, rw e (product-long (s .args .a) (s .args .b) (bit (s .args .neg)) v (s .pre .0) (s .pre .2)))
+    let v = oneIf-le (s .args .neg) in
+    let e = long-product (2 ^ 20) (s .args .a) (s .args .b) (oneIf (s .args .neg)) v (lit< tt) (mul-pos {m = s .args .a} (omega arith) (omega arith)) in
+    rw (c .one-if .ensures) (e, rw e (product-long (s .args .a) (s .args .b) (oneIf (s .args .neg)) v (s .pre .0) (s .pre .2)))
 
 pub product-spec : {M : Type 1} → statement M
 product-spec = tie.close (tie.spec mul-low add-low (λ c κs. search needs) (λ c. search needs) sub-low mul-result add-result sub-result returns)

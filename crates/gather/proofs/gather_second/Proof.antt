@@ -1,22 +1,22 @@
--- Written by tools/prove.py from answers/gather.py: answer daf2024cc4b5, proof 637a268da4f7.
+-- Written by tools/prove.py from answers/gather.py: answer ad8d871ed422, proof 10242eaa87f6.
 -- `gather::gather_second` meets its contract. Assumes nothing.
 use Rattle.gather.proofs.gather_second.Statement.{statement}
 use Rattle.gather.proofs.gather_second.Tie as tie
-use Rattle.gather.specs.Gathers.{fromSecond, after}
+use Rattle.gather.specs.Gathers.{fromSecond, withWord}
 use Rattle.page.specs.Spans.{wrapped}
 use borrow.Author.Needs.{needs}
 use borrow.Author.Tests.{le-ltb, lt-ltb}
 
 returns : tie.Need-returns
-unfolding fromSecond after wrapped
+unfolding fromSecond withWord wrapped
 returns c = rw (le-ltb _ _ (c .before .if1 .taken)) (c .complete .ensures)
 
 returns-2 : tie.Need-returns-2
-unfolding fromSecond after wrapped
+unfolding fromSecond withWord wrapped
 returns-2 c = rw (lt-ltb _ _ (c .before .before .before .before .before .before .if1 .left), ← c .before .before .before .before .before .read-word .ensures, c .before .before .before .got .given .1) (rw (← c .before .wrapping-add-u16 .ensures) (c .gather-third .ensures))
 
 returns-3 : tie.Need-returns-3
-unfolding fromSecond after wrapped
+unfolding fromSecond withWord wrapped
 returns-3 c = rw (lt-ltb _ _ (c .before .before .before .before .before .if1 .left), ← c .before .before .before .before .read-word .ensures, c .before .before .got2 .given .1) (c .denied .ensures)
 
 pub gather-second-spec : {M : Type 1} → statement M

@@ -1,21 +1,21 @@
--- Written by tools/prove.py from answers/gather.py: answer 9a724cd1ce78, proof 6153c2eec822.
+-- Written by tools/prove.py from answers/gather.py: answer 794b542b16b3, proof 484432b3f1d9.
 -- `gather::gather_third` meets its contract. Assumes nothing.
 use Rattle.gather.proofs.gather_third.Statement.{statement}
 use Rattle.gather.proofs.gather_third.Tie as tie
-use Rattle.gather.specs.Gathers.{fromThird, after}
+use Rattle.gather.specs.Gathers.{fromThird, withWord}
 use borrow.Author.Needs.{needs}
 use borrow.Author.Tests.{le-ltb, lt-ltb}
 
 returns : tie.Need-returns
-unfolding fromThird after
+unfolding fromThird withWord
 returns c = rw (le-ltb _ _ (c .before .if1 .taken)) (c .complete .ensures)
 
 returns-2 : tie.Need-returns-2
-unfolding fromThird after
+unfolding fromThird withWord
 returns-2 c = rw (lt-ltb _ _ (c .before .before .before .before .before .if1 .left), ← c .before .before .before .before .read-word .ensures, c .before .before .got .given .1) (c .complete2 .ensures)
 
 returns-3 : tie.Need-returns-3
-unfolding fromThird after
+unfolding fromThird withWord
 returns-3 c = rw (lt-ltb _ _ (c .before .before .before .before .before .if1 .left), ← c .before .before .before .before .read-word .ensures, c .before .before .got2 .given .1) (c .denied .ensures)
 
 pub gather-third-spec : {M : Type 1} → statement M

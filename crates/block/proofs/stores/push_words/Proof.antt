@@ -1,17 +1,19 @@
--- Written by tools/prove.py from answers/block.py: answer fa7306143cdc, proof 91578213f7b5.
+-- Written by tools/prove.py from answers/block.py: answer 2741e0975c4e, proof c6ce0806e808.
 -- `block::stores::push_words` meets its contract. Assumes nothing.
-use Prim.Native.Nat.{ℕ, _+_, _-_, _%_, _≤_, _<_}
+use Prim.Native.Nat.{_-_, _≤_, _<_}
 use Rattle.block.proofs.stores.push_words.Statement.{statement}
 use Rattle.block.proofs.stores.push_words.Tie as tie
-use Rattle.isa.specs.Blocks.{pushedWord}
-use Rattle.rearrange.proofs.BlockLaws.{pushed-at, one-more}
+use Rattle.isa.specs.Blocks.{pushedFrom}
+use Rattle.rearrange.proofs.BlockLaws.{pushed-none, pushed-step}
 use borrow.Author.Needs.{needs}
-use lib.ListN.{length, length-set, getD}
-use mathlib.Core.Path.{_≡_, sym, _∙_}
+use lib.ListN.{length, length-set}
+use lib.Seq.{sets}
+use mathlib.Core.Path.{_≡_, refl, sym, _∙_}
+use native.Mathlib.Nat.{sub-zero}
 use native.Mathlib.Omega.{arith}
 
 abbrev Inv-loop : tie.InvT-loop
-Inv-loop regs buf₀ b k i₀ buf i = (b < 16) × (k ≤ 16) × (length buf ≡ 16) × ((j : ℕ) → j < i → getD buf j 0 ≡ pushedWord regs ((16 + b - j) % 16) j)
+Inv-loop regs buf₀ b k i₀ buf i = (b < 16) × (k ≤ 16) × (length buf ≡ 16) × (sets buf₀ 0 (pushedFrom regs b k 0) ≡ sets buf i (pushedFrom regs b (k - i) i))
 
 abbrev μ-loop : tie.MeasureT-loop
 μ-loop regs buf₀ b k i₀ buf i = k - i
@@ -26,7 +28,7 @@ registers-from-requires : tie.Need-registers-from-requires Inv-loop μ-loop
 registers-from-requires c κs = (c .field-a .ensures .1, c .before .field-b .ensures .1)
 
 loop-holds : tie.Need-loop-holds Inv-loop μ-loop
-loop-holds c = (c .before .before .field-b .ensures .1, c .registers-from .ensures .1, c .before .before .before .pre, λ j l. absurd (omega arith))
+loop-holds c = (c .before .before .field-b .ensures .1, c .registers-from .ensures .1, c .before .before .before .pre, rw sub-zero refl)
 
 cast-number : tie.Need-cast-number Inv-loop μ-loop
 cast-number c = search needs
@@ -53,10 +55,10 @@ loop-less : tie.Need-loop-less Inv-loop μ-loop
 loop-less c = search needs
 
 loop-again : tie.Need-loop-again Inv-loop μ-loop
-loop-again c = (c .before .before .loop .inv .0, c .before .before .loop .inv .1, length-set (c .before .before .loop .buf) (c .before .before .loop .i) _ ∙ c .before .before .loop .inv .2, one-more (λ j. pushedWord (c .before .before .before .before .before .before .args .regs .now) ((16 + c .before .before .before .before .before .field-b .result - j) % 16) j) (c .before .before .loop .buf) (c .before .before .loop .i) _ (c .before .before .loop .inv .3) (omega arith) (c .pushed-word .ensures))
+loop-again c = (c .before .before .loop .inv .0, c .before .before .loop .inv .1, length-set (c .before .before .loop .buf) (c .before .before .loop .i) _ ∙ c .before .before .loop .inv .2, c .before .before .loop .inv .3 ∙ pushed-step _ _ _ _ _ (omega (arith, c .before .loop-test .taken)) _ (c .pushed-word .ensures) _ (omega arith))
 
 returns : tie.Need-returns Inv-loop μ-loop
-returns c = rw (← c .before .before .before .field-a .ensures .0, ← c .before .before .before .before .field-b .ensures .0, ← c .before .before .registers-from .ensures .0) (λ j l. c .before .loop .inv .3 j (omega (arith, c .loop-test .left)) ∙ sym (pushed-at _ _ _ 0 j j l (omega arith)))
+returns c = rw (← c .before .before .before .field-a .ensures .0, ← c .before .before .before .before .field-b .ensures .0, ← c .before .before .registers-from .ensures .0) (sym (c .before .loop .inv .3 ∙ pushed-none _ _ _ _ _ (omega (arith, c .loop-test .left))))
 
 pub push-words-spec : {M : Type 1} → statement M
 push-words-spec =

@@ -1,18 +1,21 @@
--- Written by tools/prove.py from answers/block.py: answer d06338ee2481, proof fb1872acb54c.
+-- Written by tools/prove.py from answers/block.py: answer 74a20d59ef1f, proof 310cb1eb7371.
 -- `block::stores::pushed_word` meets its contract. Assumes nothing.
+use Prim.Native.Nat.{ℕ, _+_}
 use Rattle.block.proofs.stores.pushed_word.Statement.{statement}
 use Rattle.block.proofs.stores.pushed_word.Tie as tie
 use Rattle.isa.specs.Blocks.{pushedWord}
 use Rattle.page.specs.Spans.{wrapped}
 use borrow.Author.Needs.{needs}
 use borrow.Author.Tests.{eq-eqb, ne-eqb}
+use mathlib.Core.Path.{ap, _∙_}
+use native.Mathlib.Omega.{arith}
 
 returns : tie.Need-returns
-unfolding pushedWord wrapped
-returns c = rw (eq-eqb _ _ (c .before .before .if1 .taken), ← c .before .get .ensures) (c .wrapping-add-u16 .ensures)
+unfolding pushedWord
+returns c = rw (eq-eqb _ _ (c .before .before .if1 .taken), ← c .before .get .ensures) (c .less .ensures ∙ ap (λ (x : ℕ). wrapped (c .before .get .result + x)) (omega arith))
 
 returns-2 : tie.Need-returns-2
-unfolding pushedWord wrapped
+unfolding pushedWord
 returns-2 c = rw (ne-eqb _ _ (c .before .if1 .left)) (c .get2 .ensures)
 
 pub pushed-word-spec : {M : Type 1} → statement M

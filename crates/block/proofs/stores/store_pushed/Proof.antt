@@ -1,18 +1,19 @@
--- Written by tools/prove.py from answers/block.py: answer 46d5d261e804, proof 769f5d6ea82f.
+-- Written by tools/prove.py from answers/block.py: answer 71d2da769932, proof eb72f8c66c02.
 -- `block::stores::store_pushed` meets its contract. Assumes nothing.
 use Rattle.block.proofs.stores.store_pushed.Statement.{statement}
 use Rattle.block.proofs.stores.store_pushed.Tie as tie
 use Rattle.isa.specs.Accesses.{pushedSpan}
-use Rattle.rearrange.proofs.BlockLaws.{written-agree}
+use Rattle.rearrange.proofs.BlockLaws.{written-agree, pushed-first}
 use borrow.Author.Needs.{needs}
-use mathlib.Core.Path.{_∙_}
+use lib.ListN.{getD}
+use mathlib.Core.Path.{ap, _∙_}
 
 write-span-requires : tie.Need-write-span-requires
 write-span-requires c κs = (c .before .before .before .before .before .before .before .pre .0, c .before .before .before .before .before .before .before .pre .1, c .pushed-span .ensures .1)
 
 returns : tie.Need-returns
 unfolding pushedSpan
-returns c = (rw (c .before .before .before .pushed-span .ensures .0) at (c .before .before .write-span .ensures)) ∙ written-agree _ _ _ _ _ _ _ (c .before .before .before .before .before .before .push-words .ensures) _
+returns c = let k = rw (c .before .before .before .pushed-span .ensures .0) at (c .before .before .before .pushed-span .ensures .1) in (rw (c .before .before .before .pushed-span .ensures .0) at (c .before .before .write-span .ensures)) ∙ written-agree _ _ _ _ _ _ _ (λ j l. ap (λ x. getD x j 0) (c .before .before .before .before .before .before .push-words .ensures) ∙ pushed-first _ _ _ _ k j l) _
 
 pub store-pushed-spec : {M : Type 1} → statement M
 store-pushed-spec =

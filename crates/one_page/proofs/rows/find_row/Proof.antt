@@ -1,20 +1,34 @@
--- Written by tools/prove.py from answers/one_page.py: answer 1aa211722d3d, proof 0abbd1df3f69.
+-- Written by tools/prove.py from answers/one_page.py: answer 4861d2ad7604, proof b3f8c52aeccb.
 -- `one_page::rows::find_row` meets its contract. Assumes nothing.
 use Rattle.one_page.proofs.rows.find_row.Statement.{statement}
 use Rattle.one_page.proofs.rows.find_row.Tie as tie
+use Rattle.one_page.specs.Rows.{fitting, rowOf}
 use Rattle.page.proofs.ReachLaws.{located-inside}
 use borrow.Author.Needs.{needs}
-use mathlib.Core.Path.{sym, _∙_}
+use borrow.Author.Tests.{lt-ltb, le-ltb}
+use mathlib.Core.Path.{refl}
 use native.Mathlib.Omega.{arith}
+
+returns : tie.Need-returns
+unfolding fitting rowOf
+returns c = rw (lt-ltb _ _ (c .if1 .taken)) refl
+
+returns-2 : tie.Need-returns-2
+unfolding fitting rowOf
+returns-2 c = rw (le-ltb _ _ (c .before .before .before .if1 .left), ← c .before .before .look-up .ensures, c .enum-told .given .1) refl
 
 sub-if2 : tie.Need-sub-if2
 sub-if2 c = omega (arith, located-inside _ _ _ _ _ _ _ _ (c .before .before .before .look-up .ensures) (c .before .place .given .1))
 
+returns-3 : tie.Need-returns-3
+unfolding fitting rowOf
+returns-3 c = rw (le-ltb _ _ (c .before .before .before .before .before .if1 .left), ← c .before .before .before .before .look-up .ensures, c .before .before .place .given .1, lt-ltb _ _ (c .if2 .taken)) refl
+
 returns-4 : tie.Need-returns-4
-returns-4 c = (sym (c .before .before .before .before .look-up .ensures) ∙ c .before .before .place .given .1, omega arith, omega (arith, located-inside _ _ _ _ _ _ _ _ (c .before .before .before .before .look-up .ensures) (c .before .before .place .given .1)))
+unfolding fitting rowOf
+returns-4 c = rw (le-ltb _ _ (c .before .before .before .before .before .if1 .left), ← c .before .before .before .before .look-up .ensures, c .before .before .place .given .1, le-ltb _ _ (c .if2 .left)) refl
 
 pub find-row-spec : {M : Type 1} → statement M
 find-row-spec =
     tie.close
-    (tie.spec (λ c. search needs) (λ c. search needs) (λ c κs. search needs) (λ c. search needs) (λ c. search needs) (λ c. search needs) sub-if2
-    (λ c. search needs) returns-4)
+    (tie.spec (λ c. search needs) returns (λ c κs. search needs) (λ c. search needs) (λ c. search needs) returns-2 sub-if2 returns-3 returns-4)

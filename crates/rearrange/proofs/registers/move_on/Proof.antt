@@ -1,4 +1,4 @@
--- Written by tools/prove.py from answers/rearrange.py: answer b29d135e697f, proof ebc4a3e4427f.
+-- Written by tools/prove.py from answers/rearrange.py: answer 75339a3bbc1b, proof ba96a66687ba.
 -- `rearrange::registers::move_on` meets its contract. Assumes nothing.
 use Rattle.isa.specs.Blocks.{movedOn}
 use Rattle.rearrange.proofs.registers.move_on.Statement.{statement}
@@ -7,7 +7,7 @@ use borrow.Author.Needs.{needs}
 
 returns : tie.Need-returns
 unfolding movedOn
-returns c = rw (← c .before .before .before .before .change .ensures, ← c .before .before .change2 .ensures) (c .change3 .ensures)
+returns c = rw (← c .before .before .before .before .raise .ensures, ← c .before .before .raise2 .ensures) (c .lower .ensures)
 
 pub move-on-spec : {M : Type 1} → statement M
 move-on-spec =
