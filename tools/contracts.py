@@ -6,7 +6,7 @@
 
 Run it in the repository's root. It prints what is wrong, and ends with status 1 if there is anything:
 - a `pub fn` that no other crate calls, unless docs/CONTRACTS.md has it among the users' contracts;
-- a must-fail edit whose first line is not `CONTRACT: wrong answer.`, the contract being a function of its crate (`crate::module::function`) or,
+- a must-fail edit whose old text does not stand exactly once in its file, or whose first line is not `CONTRACT: wrong answer.`, the contract being a function of its crate (`crate::module::function`) or,
   where the edit changes specs/, a definition (`crate/File: name`);
 - a users' contract without two edits in the table of docs/CONTRACTS.md, an edit there that does not exist or tries another contract;
 - another public contract with neither a row in its crate's proofs/Wrong.antt, which names two wrong answers, nor two edits.
@@ -61,6 +61,15 @@ def edits():
             for path in sorted(glob.glob('crates/*/must-fail/*.edit'))}
 
 
+def unfit(path):
+    """The texts that an edit replaces and that do not stand exactly once in their file."""
+    file = None
+    for line in read(path).split('\n'):
+        file = line[6:] if line.startswith('file: ') else file
+        if line.startswith('old: ') and read(f'crates/{path.split("/")[1]}/{file}').count(line[5:]) != 1:
+            yield f'{path}: `{line[5:].strip()}` is not once in {file}'
+
+
 def tried(line):
     """The contract that the first line of an edit names."""
     found = re.match(r'([\w/]+: [\w\-′·]+|\w+(?:::\w+)+): .+\.$', line)
@@ -108,6 +117,7 @@ def main(words):
     modules = sources()
     public, every, names = functions(modules, 'pub '), set(functions(modules)) | set(functions(modules, r'pub(?:\(crate\))? ')), called(modules)
     found, users, wrong = edits(), listed(), []
+    wrong += [fault for path in sorted(glob.glob('crates/*/must-fail/*.edit')) for fault in unfit(path)]
     wrong += [fault for label, (line, folders) in found.items() for fault in [wrong_edit(label, line, folders, every)] if fault]
     by_edit = {}
     for label, (line, _) in found.items():
