@@ -12,6 +12,14 @@ def table(definition, argument, keys, bounded):
                 **{last: '(%s, search needs)' % default if bounded else default})
 
 
+MODES = 'Rattle.access.proofs.ModeLaws.{mode-is, indexed-modes, no-modes}'
+
+
+# the mode of a form that is in the range of mode m
+def mode(m):
+    return 'mode-is (@args .form) %d (omega arith) (omega arith)' % m
+
+
 A = {
     'fields/field_a': bare(FIELDS + ' fieldA', returns='(refl, search needs)'),
     'fields/field_b': bare(FIELDS + ' fieldB', returns='(refl, search needs)'),
@@ -21,6 +29,7 @@ A = {
         returns='rw (lt-ltb _ _ (@if1 .taken))', returns_2='rw (le-ltb _ _ (@if1 .left))'),
     'fields/get': bare(FIELDS + ' register', returns='refl'),
     'fields/put': bare(FIELDS + ' withRegister', returns='refl'),
+    'fields/pair_at': bare(WORDS + ' registerPair', returns='rw (← @get .ensures, ← @get2 .ensures) (@join .ensures)'),
     'fields/registers_from': bare(FIELDS + ' registersFrom', returns='(refl, search needs)'),
     'fields/index_by': bare(FIELDS + ' indexed', SPANS + ' wrapped', then=[COMPARISONS], returns='rw (eq-eqb _ _ (@if1 .taken))',
         returns_2='rw (ne-eqb _ _ (@if1 .left), ← @get .ensures) (@wrapping-add-u16 .ensures)'),
@@ -28,9 +37,14 @@ A = {
     'addressing/immediate': table('isImmediate', 'mode', '4 5 8 9', False),
     'addressing/based': table('isBased', 'mode', '2 3', False),
     'addressing/base_accumulator': table('baseAccumulator', 'operation', '39 48 60 68 74 79 94', True),
-    'addressing/derive': bare(ADDRESSING + ' derivedFrom', SPANS + ' wrapped', then=[LISTS, OTHERWISE], arms='@arm',
-        returns_3='rw (@match .keys3, ← @field-b2 .ensures .0) refl', returns_4='rw (@match .keys4, ← @field-b3 .ensures .0) refl',
-        returns_10='sym (%s)' % rest('(@args .mode)', '2 3 4 5 6 7 8 9 10')),
+    'addressing/derive': bare(ADDRESSING + ' derivedFrom', SPANS + ' wrapped', then=[OMEGA, 'mathlib.Core.Logic.{inl, inr}', MODES],
+        returns='rw (%s, ← @base-of .ensures, ← @get .ensures, ← @displacement-of .ensures) (@wrapping-add-u16 .ensures)' % mode(2),
+        returns_2='rw (%s, ← @field-b .ensures .0, ← @base-of2 .ensures, ← @get2 .ensures) (@index-by .ensures)' % mode(3),
+        returns_3='rw (%s, ← @field-b2 .ensures .0) refl' % mode(4), returns_4='rw (%s, ← @field-b3 .ensures .0) refl' % mode(5),
+        returns_5='(rw (← @field-b4 .ensures .0) (@index-by2 .ensures)) ∙ indexed-modes (@args .form) _ (@args .ic) _ _ (@if5 .left) (@if6 .taken)',
+        returns_6='rw (%s) refl' % mode(9), returns_7='rw (%s, ← @signed-displacement .ensures) (@wrapping-add-u162 .ensures)' % mode(10),
+        returns_8='no-modes (@args .form) _ (@args .ic) _ _ (inl (omega (arith, @if1 .taken)))',
+        returns_9='no-modes (@args .form) _ (@args .ic) _ _ (inr (omega (arith, @if8 .left)))'),
     'addressing/operand_word': bare(ADDRESSING + ' operandWord isRegister', then=[COMPARISONS],
         returns='rw (eq-eqb _ _ (@if1 .taken), ← @field-b .ensures .0) (@get .ensures)', returns_2='rw (ne-eqb _ _ (@if1 .left))'),
     'addressing/operand_of': bare(ADDRESSING + ' operand', returns='rw (← @immediate .ensures, @if1 .taken)',

@@ -30,7 +30,7 @@ def reading(way, width, place, calls, given, after):
             'read-operand-requires': '(@Start .pre .0, @Start .pre .3, @Start .pre .5, omega (arith, %s))' % OF,
             'returns': told + first + 'read-done %s %s _ _ _ (@if1 .taken) (does-%s (@args .n) %s _ _ %s %s) (@done .ensures .0) (%s)' % (
                 read, effect, name, OF, ' '.join(['_'] * way), found, state),
-            'returns-2': 'read-refused %s _ _ _ (@if1 .left) (@refused .ensures .0) (@refused .ensures .1) refl' % read}
+            'returns-2': 'read-refused %s _ _ _ (@if1 .left) (@refused .ensures .0) (@refused .ensures .1) %s' % (read, unchanged('refused'))}
 
 
 # two registers, of a variable

@@ -3,12 +3,12 @@ ANSWERS = 'borrow.Author.Tests.{eq-eqb, ne-eqb, le-leb, lt-leb, not-true, not-fa
 BECAME = 'Rattle.machine.proofs.MachineLaws.{machine-became}'
 
 # the questions before a run, each answered by yes
-ASKED = ['not-false (@whole .result) (@if1 .left)', 'eq-eqb _ _ (@if2 .left)', 'eq-eqb _ _ (@if3 .left)', 'le-leb _ _ (@if4 .left)', 'le-leb _ _ (@if5 .left)']
+ASKED = ['not-false (@whole-pages .result) (@if1 .left)', 'eq-eqb _ _ (@if2 .left)', 'eq-eqb _ _ (@if3 .left)', 'le-leb _ _ (@if4 .left)', 'le-leb _ _ (@if5 .left)']
 
 
 # the nth question is the first that is answered by no
 def answered(n, last):
-    return 'rw (%s) refl' % ', '.join(['← @whole .ensures'] + ASKED[:n] + last)
+    return 'rw (%s) refl' % ', '.join(['← @whole-pages .ensures'] + ASKED[:n] + last)
 
 
 # the machine that is given, and that the budget is spent on it
@@ -16,12 +16,9 @@ GIVEN = '(machine (@args .state) %s)' % SPACES
 SPENT = '(sym (@number .ensures ∙ ap numberOf (@ask .ensures)) ∙ @if1 .taken)'
 
 A = {
-    'run/whole': by(RUNS + ' wholePages', use=[ANSWERS],
-        returns='rw (eq-eqb _ _ (@if1 .taken), le-leb _ _ (@if2 .taken)) refl', returns_2='rw (eq-eqb _ _ (@if1 .taken), lt-leb _ _ (@if2 .left)) refl',
-        returns_3='rw (ne-eqb _ _ (@if1 .left)) refl'),
     'run/number': by(RUNS + ' numberOf', arms='cc'),
     'run/ask': by(RUNS + ' admission asked', use=[ANSWERS],
-        returns='rw (← @whole .ensures, not-true (@whole .result) (@if1 .taken)) refl',
+        returns='rw (← @whole-pages .ensures, not-true (@whole-pages .result) (@if1 .taken)) refl',
         returns_2=answered(1, ['ne-eqb _ _ (@if2 .taken)']), returns_3=answered(2, ['ne-eqb _ _ (@if3 .taken)']),
         returns_4=answered(3, ['lt-leb _ _ (@if4 .taken)']), returns_5=answered(4, ['lt-leb _ _ (@if5 .taken)']), returns_6=answered(5, [])),
     'run/run_steps': {

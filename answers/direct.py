@@ -58,7 +58,7 @@ A = {
         'mul-memory': 'omega (arith, %s)' % inside('place'), 'slice-write-memory': inside('place'), 'write-count-requires': '@Start .pre .5',
         'returns': 'store-done %s _ _ %s _ _ _ (@place .given .1) refl (does-store (@args .n) %s _ _ ∙ ap (λ x. stored %s (@args .n) x 0 0) (sym (@word-stored .ensures))) (@done .ensures .0) %s' % (
             ONE, STORED, OF, CONTEXT, STATE_AFTER % ('done', STORED)),
-        'returns-2': 'store-refused %s _ _ _ _ (@place2 .given .1) (@refused .ensures .0) (@refused .ensures .1) refl' % ONE,
+        'returns-2': 'store-refused %s _ _ _ _ (@place2 .given .1) (@refused .ensures .0) (@refused .ensures .1) %s' % (ONE, unchanged('refused')),
         'returns-3': 'idle-done %s false %s %s _ _ _ (does-store (@args .n) %s _ _) (@done2 .ensures .0) %s' % (
             STORE, written(3, 1, SEEN['left']), NOTHING, OF, STATE_AFTER % ('done2', NOTHING))},
     'store/store_two': {
@@ -71,8 +71,8 @@ A = {
             PAIR, written(5, 2, UNSEEN['taken']), HELD, OF, STATE_AFTER % ('done', HELD)),
         'returns-2': 'rw (@put-two .ensures) (pair-done %s _ _ _ _ %s _ _ _ (rw (%s) refl) (rw (%s) refl) refl (rw (@get .ensures, @get2 .ensures, @accumulator-of .ensures .0, '
             '@accumulator-of2 .ensures .0) (does-pair (@args .n) %s _ _)) (@done2 .ensures .0) %s)' % (BOTH, GOT, AT_FIRST % '', AT_SECOND % '', OF, STATE_AFTER % ('done2', GOT)),
-        'returns-3': 'pair-refused %s _ _ _ _ (rw (%s, %s) refl) (@refused .ensures .0) (@refused .ensures .1) refl' % (BOTH, AT_FIRST % '', AT_SECOND % '2'),
-        'returns-4': 'pair-refused %s _ _ _ _ (rw (%s) refl) (@refused2 .ensures .0) (@refused2 .ensures .1) refl' % (BOTH, AT_FIRST % '2')},
+        'returns-3': 'pair-refused %s _ _ _ _ (rw (%s, %s) refl) (@refused .ensures .0) (@refused .ensures .1) %s' % (BOTH, AT_FIRST % '', AT_SECOND % '2', unchanged('refused')),
+        'returns-4': 'pair-refused %s _ _ _ _ (rw (%s) refl) (@refused2 .ensures .0) (@refused2 .ensures .1) %s' % (BOTH, AT_FIRST % '2', unchanged('refused2'))},
     'branch/is_taken': by(WAYS + ' isTaken', use=[TESTS], returns='rw (eq-eqb _ _ (@if1 .taken), ← @field-a .ensures .0) (@taken .ensures)',
         returns_2='rw (ne-eqb _ _ (@if1 .left)) (@branches .ensures)'),
     'branch/branch': {

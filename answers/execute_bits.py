@@ -19,9 +19,9 @@ def shifted(definition, calls, last):
 
 # the shifts by a number, then those by a register: the shape and the calls
 FIXED = [('single', 'left16'), ('single2', 'right16'), ('single3', 'arith16'), ('single4', 'cyclic16'),
-         ('double', 'register-pair left32'), ('double2', 'register-pair2 right32'), ('double3', 'register-pair3 arith32'), ('double4', 'register-pair4 cyclic32')]
+         ('double', 'pair-at left32'), ('double2', 'pair-at2 right32'), ('double3', 'pair-at3 arith32'), ('double4', 'pair-at4 cyclic32')]
 COUNTED = [('shifted-single', 'get2', 'logical16'), ('shifted-single2', 'get3', 'arithmetic16'), ('shifted-single3', 'get4', 'circular16'),
-           ('shifted-double', 'register-pair5', 'logical32'), ('shifted-double2', 'register-pair6', 'arithmetic32'), ('shifted-double3', 'register-pair7', 'circular32')]
+           ('shifted-double', 'pair-at5', 'logical32'), ('shifted-double2', 'pair-at6', 'arithmetic32'), ('shifted-double3', 'pair-at7', 'circular32')]
 SHIFTS = [(10 + i, 'field-a field-b %s%s' % ('get ' if i < 4 else '', calls), shape(last)) for i, (last, calls) in enumerate(FIXED)] \
     + [(18 + i, 'field-a field-b get %s' % operand, '@%s .ensures _ _ _ (@%s .ensures)' % (last, call)) for i, (last, operand, call) in enumerate(COUNTED)]
 
@@ -32,7 +32,6 @@ A = {
         (5, 'field-a operand-of3 test-bit', shape('tested')), (6, 'field-a operand-of4', shape('test-and-set')),
         (7, 'field-a field-b get get2 set-bit2', keeping('loaded')), (8, 'field-a field-b get3 get4 reset-bit2', keeping('loaded2')),
         (9, 'field-a field-b get5 get6 test-bit2', shape('tested2'))], '', keeping('nothing')),
-    'shifts/register_pair': {'use': [WORDS + '{registerPair}'], 'unf': {'*': 'registerPair'}, 'returns': 'rw (%s) (@join .ensures)' % fold('get get2')},
     'shifts/shifted_single': shifted('shiftedSingle', 'field-a status16 fixed-overflow', 'result1'),
     'shifts/shifted_double': shifted('shiftedDouble', 'fixed-overflow field-a high low status32', 'result2'),
     'shifts/shift_operation': group('shiftOperation', [], SHIFTS, '', keeping('nothing')),

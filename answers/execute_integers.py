@@ -32,7 +32,6 @@ def operation(definition, rows, opened='', absent=0):
 
 
 A = {
-    'outcomes/pair_at': {'use': [WORDS + '{registerPair}'], 'unf': {'*': 'registerPair'}, 'returns': 'rw (← @get .ensures, ← @get2 .ensures) (@join .ensures)'},
     'outcomes/single_outcome': {'use': [LAWS + '{single-is}'], 'returns': 'λ regs sw o e. @result1 .ensures regs sw ∙ single-is _ _ _ _ _ _ e (@fixed-overflow .ensures)'},
     'outcomes/double_outcome': {'use': [LAWS + '{double-is}'],
         'returns': 'λ regs sw o e. @result2 .ensures regs sw ∙ double-is _ _ _ _ _ _ _ _ e (@fixed-overflow .ensures) (@high .ensures) (@low .ensures)'},

@@ -70,7 +70,7 @@ A = {
             % (CARRIED, DIRECT, became(DIRECT + ' .worked'), settled(DIRECT + ' .worked .state-is')),
         returns_2='let k = @direct .ensures .when-refused (@if1 .left) in '
             '(λ lag ports. rw (@deny .ensures .0, ← carried-fault %s _ _ _ refl refl refl _ (k .0), ← @advance .ensures) (%s), %s)'
-            % (CARRIED, failed('ports', 'lag', 'k .2', 'ap (λ r. later lag (joined (@deny .result .core) r)) (k .1) ∙ '), DENIED)),
+            % (CARRIED, failed('ports', 'lag', 'k .2', 'ap (λ r. later lag (joined (@deny .result .core) (r .regs))) (k .1) ∙ '), DENIED)),
     'proceed': by(STAGES + ' operated', ISA + ' mil1750 contextOf',
         use=[LATER, OMEGA, USER + '{writes-by, few-written, worked-ordinary, became-worked, settled-by}', WAY_LAWS + '{way-user}', ACT + '{accessed-clear, accessed-fault, failed}', STATE + '{joined}'],
         check_span_requires='(@Start .pre .0, @Start .pre .5)', write_start_requires='@Start .pre .6', write_count_requires='@Start .pre .6',

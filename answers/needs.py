@@ -14,9 +14,9 @@ TOLD = '(@args .n .form) (@args .number) (@Start .pre) (search needs)'
 
 
 # the entries of a constant, computed
-def entries(variable, lookup):
-    return {'use': [PAGES, DECODE + '{lookup}', *OPENED, 'Rattle.choice.proofs.TableLaws.{tabled}', 'Prim.Native.Nat.{ℕ}'], 'unf': {'*': 'pages ' + NUMBER},
-            'array-read-result': 'search needs', 'returns': 'tabled (λ (k : ℕ). numberOf (%s)) 16 (@args .%s) (array-read-result c)' % (lookup, variable)}
+def entries(variable, formClaimed):
+    return {'use': [PAGES, DECODE + '{formClaimed}', *OPENED, 'Rattle.choice.proofs.TableLaws.{tabled}', 'Prim.Native.Nat.{ℕ}'], 'unf': {'*': 'pages ' + NUMBER},
+            'array-read-result': 'search needs', 'returns': 'tabled (λ (k : ℕ). numberOf (%s)) 16 (@args .%s) (array-read-result c)' % (formClaimed, variable)}
 
 
 # where the words start that an operation reads or writes
@@ -40,8 +40,8 @@ CHOSEN = 'rw (%s, @match .keys%%d) (@%%s .ensures)' % DECODED
 
 A = {
     'table': {'use': [OWN + '{numbers}', *OPENED, DECODE + '{formOf}', PAGES], 'unf': {'*': 'numbers formOf pages ' + NUMBER}, 'returns': 'refl'},
-    'indexed': entries('upper', 'lookup 0x40 k 0'),
-    'immediate': entries('lower', 'lookup 0x4A 0 k'),
+    'indexed': entries('upper', 'formClaimed 0x40 k 0'),
+    'immediate': entries('lower', 'formClaimed 0x4A 0 k'),
     'special': {'use': [*OPENED, OTHERWISE, DECODE_LAWS + '{special, under-ff}'], 'unf': {'*': 'special ' + NUMBER},
         'returns': 'rw (under-ff (@args .first), @match .keys1)', 'returns-2': 'rw (under-ff (@args .first), @match .keys2)',
         'returns-3': 'rw (under-ff (@args .first)) (ap numberOf (sym (otherwise _ special 0 (@match .rest))))'},

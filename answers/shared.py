@@ -132,6 +132,11 @@ STARTED = '%s %s (@args .n)' % (PLAIN, PAGED)
 LAGGING = '(later (@args .lag) %s)' % PLAIN
 
 
+# an operation that is refused leaves the state as it was
+def unchanged(call):
+    return '(ap (λ k. joined k %s) (@%s .ensures .2))' % (REGS, call)
+
+
 # what a fault leaves of the machine: the same but for the state, later by `lag`
 def failed(ports='(@args .ports .now)', lag='(@args .lag)', kept='refl', regs=''):
     return 'failed (later %s %s) _ (@args .memory .now) _ (@args .pages .now) %s _ _ (%s) (%s@deny .ensures .1 %s %s)' % (lag, PLAIN, ports, kept, regs, lag, REGS)

@@ -1,2 +1,3 @@
--- The rows of wrong answers.
+-- The laws of addressing modes by ranges of the form number, and the rows of wrong answers.
+pub mod ModeLaws
 pub mod Wrong

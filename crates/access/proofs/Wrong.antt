@@ -9,6 +9,7 @@ use Rattle.word.specs.Pair.{pair}
 use Rattle.page.specs.Spans.{wrapped}
 use Rattle.machine.specs.declared.Instruction.{Instruction}
 use Rattle.isa.specs.Fields.{fieldA, fieldB, register, withRegister, registersFrom}
+use Rattle.isa.specs.Words.{registerPair}
 use Rattle.isa.specs.Addressing.{derivedFrom, inMemory, operandWord, operand, doubleOperand, accumulator}
 use Rattle.isa.proofs.OpenInstructions.{instructions}
 
@@ -42,6 +43,8 @@ rows =
     ∷ one (register regs 17) 0x1001 0 0x100F
     -- fields::put: nothing past R15; R0 for every number past R15
     ∷ some (take 3 (withRegister regs 17 7)) (0x1000 ∷ 7 ∷ 0x1002 ∷ []) (0x1000 ∷ 0x1001 ∷ 0x1002 ∷ []) (7 ∷ 0x1001 ∷ 0x1002 ∷ [])
+    -- fields::pair_at: the words exchanged; the second of R15 and R0 missing
+    ∷ one (registerPair regs 15) 0x100F1000 0x1000100F 0x100F0000
     -- fields::registers_from: the last register not counted; the registers from b on to a
     ∷ one (registersFrom 14 1) 4 3 14
     -- fields::less: the operands exchanged; 0 for every result below 0

@@ -3,6 +3,7 @@ ghost use mathlib.Core.Path.{_≡_};
 ghost use Prim.Native.Nat.{_+_, _-_, _<_, _≤_};
 ghost use Rattle.page.specs.Spans.{wrapped};
 ghost use Rattle.isa.specs.Fields.{fieldA, fieldB, baseRegister, displacement, signedDisplacement, register, withRegister, registersFrom, indexed};
+ghost use Rattle.isa.specs.Words.{registerPair};
 use std::num::wrapping_add_u16;
 use std::num::wrapping_sub_u16;
 
@@ -57,6 +58,14 @@ pub fn put(regs: &mut [u16; 16], n: u16, v: u16)
     ensures { λ r. ⌜ now (regs .exit) ≡ withRegister (now (regs .entry)) n v ⌝ }
 {
     regs[(n % 16) as usize] = v;
+}
+
+// The double word of register k and the next. k is a register's number.
+pub fn pair_at(regs: &[u16; 16], k: u16) -> u32
+    requires { ⌜ k < 16 ⌝ }
+    ensures { λ r. ⌜ r ≡ registerPair (now (regs .entry)) k ⌝ }
+{
+    word::pair::join(get(regs, k), get(regs, k + 1))
 }
 
 // How many registers there are from a on to b. Both are fields of four bits.

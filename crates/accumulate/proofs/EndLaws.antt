@@ -34,7 +34,7 @@ use Rattle.isa.specs.Mil1750.{classOf, contextOf}
 use Rattle.gather.specs.declared.Gathered.{Gathered}
 use Rattle.gather.specs.Gathers.{FirstThree, gathered}
 use Rattle.gather.proofs.GatherLaws.{all-gathered, denied-gathered}
-use Rattle.accumulate.specs.Ended.{verdict, wordsRead, Ended}
+use Rattle.accumulate.specs.Ended.{verdict, operandWords, Ended}
 
 -- ---- registers and core after an outcome
 
@@ -91,7 +91,7 @@ module _ (s : State) (m g : List ℕ) (n : Instruction) (user : classOf (operati
   writing = checked (keyOf (s .sw)) (groupOf (s .sw)) g (length m) (writesOf (s .regs) n) Write
 
   pub ended-clear : (e : Effect) (c : Bool) (fault : ℕ) (t : State) (w : List ℕ) → reading ≡ Clear → writing ≡ Clear
-      → executed (contextOf s) n (wordsRead s m g n) ≡ e → c ≡ true → t ≡ affected s e → w ≡ stored s m g e (writesOf (s .regs) n) → Ended s m g n c fault t w
+      → executed (contextOf s) n (operandWords s m g n) ≡ e → c ≡ true → t ≡ affected s e → w ≡ stored s m g e (writesOf (s .regs) n) → Ended s m g n c fault t w
   unfolding both
   ended-clear e c fault t w p q d h i j = record {
     by-user = user;
@@ -99,7 +99,7 @@ module _ (s : State) (m g : List ℕ) (n : Instruction) (user : classOf (operati
     when-refused = λ r. absurd (false≢true (sym r ∙ h));
   }
 
-  pub ended-refused : (c : Bool) (fault : ℕ) (t : State) → verdict s m g n ≡ Fault fault → c ≡ false → t .regs ≡ s .regs → Ended s m g n c fault t m
+  pub ended-refused : (c : Bool) (fault : ℕ) (t : State) → verdict s m g n ≡ Fault fault → c ≡ false → t ≡ s → Ended s m g n c fault t m
   ended-refused c fault t p h i = record {
     by-user = user;
     when-clear = λ r. absurd (false≢true (sym h ∙ r));
@@ -114,23 +114,23 @@ module _ (s : State) (m g : List ℕ) (n : Instruction) (user : classOf (operati
       (v : Gathered)
       (i : v ≡ gathered (checked key group g (length m) (spanFrom (n .address) (cond (inMemory (modeOf (n .form))) k 0)) Read)
       (wordsOf key group g (length m) (spanFrom (n .address) (cond (inMemory (modeOf (n .form))) k 0)) m)) where
-    gathers : v ≡ gathered reading (wordsRead s m g n)
+    gathers : v ≡ gathered reading (operandWords s m g n)
     gathers = rw (reads, ← d, ← e) i
 
     unwritten : writing ≡ Clear
     unwritten = rw writes (none-checked (keyOf (s .sw)) (groupOf (s .sw)) g (length m) (n .address) Write (inMemory (modeOf (n .form))))
 
-    pub words-first : v .clear ≡ true → FirstThree (wordsRead s m g n) (v .x) (v .y) (v .z)
+    pub words-first : v .clear ≡ true → FirstThree (operandWords s m g n) (v .x) (v .y) (v .z)
     words-first h = all-gathered _ _ v gathers h .1
 
-    pub read-done : (f : Effect) (c : Bool) (fault : ℕ) (t : State) → v .clear ≡ true → executed (contextOf s) n (wordsRead s m g n) ≡ f → c ≡ true
+    pub read-done : (f : Effect) (c : Bool) (fault : ℕ) (t : State) → v .clear ≡ true → executed (contextOf s) n (operandWords s m g n) ≡ f → c ≡ true
         → t ≡ affected s f → Ended s m g n c fault t m
     unfolding stored
     read-done f c fault t h x r j =
         ended-clear f c fault t m (all-gathered _ _ v gathers h .0) unwritten x r j
         (rw writes (sym (none-written (keyOf (s .sw)) (groupOf (s .sw)) g (length m) (n .address) (f .words) m (inMemory (modeOf (n .form))))))
 
-    pub read-refused : (c : Bool) (fault : ℕ) (t : State) → v .clear ≡ false → c ≡ false → fault ≡ v .fault → t .regs ≡ s .regs → Ended s m g n c fault t m
+    pub read-refused : (c : Bool) (fault : ℕ) (t : State) → v .clear ≡ false → c ≡ false → fault ≡ v .fault → t ≡ s → Ended s m g n c fault t m
     unfolding both
     read-refused c fault t h r q j = ended-refused c fault t (rw (denied-gathered _ _ v gathers h, q) refl) r j
 
@@ -141,7 +141,7 @@ module _ (s : State) (m g : List ℕ) (n : Instruction) (user : classOf (operati
     unread = rw reads (none-checked (keyOf (s .sw)) (groupOf (s .sw)) g (length m) (n .address) Read (inMemory (modeOf (n .form))))
 
     pub idle-done : (b : Bool) → writesOf (s .regs) n ≡ spanFrom (n .address) (cond b 0 0)
-        → (f : Effect) (c : Bool) (fault : ℕ) (t : State) → executed (contextOf s) n (wordsRead s m g n) ≡ f → c ≡ true → t ≡ affected s f → Ended s m g n c fault t m
+        → (f : Effect) (c : Bool) (fault : ℕ) (t : State) → executed (contextOf s) n (operandWords s m g n) ≡ f → c ≡ true → t ≡ affected s f → Ended s m g n c fault t m
     unfolding stored
     idle-done b writes f c fault t x r j =
         ended-clear f c fault t m unread (rw writes (none-checked (keyOf (s .sw)) (groupOf (s .sw)) g (length m) (n .address) Write b)) x r j
@@ -156,13 +156,13 @@ module _ (s : State) (m g : List ℕ) (n : Instruction) (user : classOf (operati
       placed = rw (writes, ← looked) (one-checked (keyOf (s .sw)) (groupOf (s .sw)) g (length m) (n .address) Write)
 
       pub store-done : (p x : ℕ) (f : Effect) (c : Bool) (fault : ℕ) (t : State) → q ≡ At p → f .words ≡ three x 0 0
-          → executed (contextOf s) n (wordsRead s m g n) ≡ f → c ≡ true → t ≡ affected s f → Ended s m g n c fault t (set m p x)
+          → executed (contextOf s) n (operandWords s m g n) ≡ f → c ≡ true → t ≡ affected s f → Ended s m g n c fault t (set m p x)
       unfolding stored andThen putAt
       store-done p x f c fault t h y z r j =
           ended-clear f c fault t (set m p x) unread (placed ∙ ap (λ (u : Place). andThen u Clear) h) z r j
           (rw (writes, y) (sym (one-written (keyOf (s .sw)) (groupOf (s .sw)) g (length m) (n .address) x m ∙ ap (λ (u : Place). putAt m u x) (looked ∙ h))))
 
-      pub store-refused : (b : ℕ) (c : Bool) (fault : ℕ) (t : State) → q ≡ Refused b → c ≡ false → fault ≡ b → t .regs ≡ s .regs → Ended s m g n c fault t m
+      pub store-refused : (b : ℕ) (c : Bool) (fault : ℕ) (t : State) → q ≡ Refused b → c ≡ false → fault ≡ b → t ≡ s → Ended s m g n c fault t m
       unfolding both andThen
       store-refused b c fault t h r y j =
           ended-refused c fault t (rw (unread, placed, h, y) refl) r j
@@ -176,13 +176,13 @@ module _ (s : State) (m g : List ℕ) (n : Instruction) (user : classOf (operati
       both-placed = rw (writes, ← d, ← e) (two-checked key group g (length m) (n .address) Write)
 
       pub pair-done : (p q x y : ℕ) (f : Effect) (c : Bool) (fault : ℕ) (t : State) → at (n .address) ≡ At p → at (wrapped (n .address + 1)) ≡ At q → f .words ≡ three x y 0
-          → executed (contextOf s) n (wordsRead s m g n) ≡ f → c ≡ true → t ≡ affected s f → Ended s m g n c fault t (set (set m p x) q y)
+          → executed (contextOf s) n (operandWords s m g n) ≡ f → c ≡ true → t ≡ affected s f → Ended s m g n c fault t (set (set m p x) q y)
       unfolding stored andThen putAt
       pair-done p q x y f c fault t h i k z r j =
           ended-clear f c fault t (set (set m p x) q y) unread (both-placed ∙ rw (h, i) refl) z r j
           (rw (writes, k, ← d, ← e) (sym (two-written key group g (length m) (n .address) x y m ∙ rw (h, i) refl)))
 
       pub pair-refused : (b : ℕ) (c : Bool) (fault : ℕ) (t : State) → andThen (at (n .address)) (andThen (at (wrapped (n .address + 1))) Clear) ≡ Fault b
-          → c ≡ false → fault ≡ b → t .regs ≡ s .regs → Ended s m g n c fault t m
+          → c ≡ false → fault ≡ b → t ≡ s → Ended s m g n c fault t m
       unfolding both
       pair-refused b c fault t h r y j = ended-refused c fault t (rw (unread, both-placed, h, y) refl) r j

@@ -25,12 +25,12 @@ verdict s m g n =
     (checked (keyOf (s .sw)) (groupOf (s .sw)) g (length m) (writesOf (s .regs) n) Write)
 
 -- the words that it reads
-abbrev pub wordsRead : State → List ℕ → List ℕ → Instruction → List ℕ
-wordsRead s m g n = wordsOf (keyOf (s .sw)) (groupOf (s .sw)) g (length m) (readsOf (s .regs) n) m
+abbrev pub operandWords : State → List ℕ → List ℕ → Instruction → List ℕ
+operandWords s m g n = wordsOf (keyOf (s .sw)) (groupOf (s .sw)) g (length m) (readsOf (s .regs) n) m
 
 -- the operation is a user's; where all accesses are open, the state t and the memory w are those after it; else the fault is that of the first
--- refusal, and registers and memory are as they were
+-- refusal, and the state and the memory are as they were
 pub record Ended (s : State) (m g : List ℕ) (n : Instruction) (clear : Bool) (fault : ℕ) (t : State) (w : List ℕ) : Type 0 where
   pub by-user : classOf (operationOf (n .form)) ≡ User
   pub when-clear : clear ≡ true → Finished s m g n t w
-  pub when-refused : clear ≡ false → (verdict s m g n ≡ Fault fault) × (t .regs ≡ s .regs) × (w ≡ m)
+  pub when-refused : clear ≡ false → (verdict s m g n ≡ Fault fault) × (t ≡ s) × (w ≡ m)

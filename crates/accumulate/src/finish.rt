@@ -38,9 +38,9 @@ pub fn done(core: Core, ic: u16, cs: u16, bits: u16) -> Ending
     }
 }
 
-// It is refused, with the FT bit b.
+// It is refused, with the FT bit b; the core is as it was.
 pub fn refused(core: Core, b: u16) -> Ending
-    ensures { λ r. ⌜ (r .clear ≡ false) × (r .fault ≡ b) ⌝ }
+    ensures { λ r. ⌜ (r .clear ≡ false) × (r .fault ≡ b) × (r .core ≡ core) ⌝ }
 {
     Ending {
         clear: false,

@@ -3,12 +3,13 @@ ghost use mathlib.Core.Path.{_≡_};
 ghost use lib.ListN.{length};
 ghost use Rattle.machine.specs.State.{joined};
 ghost use Rattle.machine.specs.Machine.{Became, machine};
-ghost use Rattle.machine.specs.Runs.{numberOf, wholePages, admission, answerOf, steps, left};
+ghost use Rattle.machine.specs.Runs.{numberOf, admission, answerOf, steps, left};
 ghost use Rattle.isa.specs.Mil1750.{mil1750};
 ghost use Rattle.needs.specs.Needs.{numbers};
 use machine::Answer;
 use machine::Core;
 use machine::State;
+use machine::whole_pages;
 use steps::go_on;
 
 // As many steps as are told.
@@ -35,24 +36,11 @@ fn run_steps(
     t
 }
 
-// Whether a memory is a multiple of 4,096 words, from 4,096 to 1,048,576.
-fn whole(memory: usize) -> bool
-    ensures { λ r. ⌜ r ≡ wholePages memory ⌝ }
-{
-    if memory % 4096 == 0 {
-        if 4096 <= memory {
-            return memory <= 1048576;
-        }
-        return false;
-    }
-    false
-}
-
 // The questions before a run, in their order.
 fn ask(memory: usize, pages: usize, ports: usize, count: u32, budget: u32) -> Answer
     ensures { λ r. ⌜ r ≡ admission memory pages ports count budget ⌝ }
 {
-    if !whole(memory) {
+    if !whole_pages(memory) {
         return Answer::BadMemory;
     }
     if pages != 512 {

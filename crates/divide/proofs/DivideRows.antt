@@ -6,7 +6,7 @@ use lib.Dec.{T, eqb}
 use Rattle.choice.proofs.Rows.{allOf}
 use Rattle.whole.specs.Whole.{signed, wrap, holds}
 use Rattle.word.specs.Status.{status, withCarry}
-use Rattle.fixed.specs.Fixed.{Outcome, result}
+use Rattle.fixed.specs.Fixed.{Outcome, outcomeOf}
 use Rattle.divide.specs.declared.Quotient.{Quotient}
 use Rattle.divide.specs.Divide.{product, longProduct, division, divided, longDivided, quotient}
 
@@ -56,5 +56,5 @@ rows =
     ∷ []
 
 pub rows-hold : T (allOf right rows)
-unfolding right rows signed wrap holds status withCarry result product longProduct division divided longDivided quotient
+unfolding right rows signed wrap holds status withCarry outcomeOf product longProduct division divided longDivided quotient
 rows-hold = tt

@@ -7,7 +7,7 @@ use lib.IntN.{_*ℤ_}
 use lib.Dec.{T, ltb, lit<}
 use Rattle.whole.specs.Whole.{signed, withSign, Parts}
 use Rattle.whole.proofs.Signs.{differ, mul-sign}
-use Rattle.fixed.specs.Fixed.{result}
+use Rattle.fixed.specs.Fixed.{outcomeOf}
 use Rattle.divide.specs.Divide.{product, longProduct}
 
 -- the product of two numbers, from their parts
@@ -15,13 +15,13 @@ module _ {w a b m n : ℕ} {s t : Bool} (x : Parts w a s m) (y : Parts w b t n) 
   product-number : withSign (differ s t) (m * n) ≡ signed w a *ℤ signed w b
   product-number = sym (ap (λ z. z *ℤ signed w b) (x .number) ∙ ap (λ z. withSign s m *ℤ z) (y .number) ∙ mul-sign s t m n)
 
-  pub product-is : result w false (withSign (differ s t) (m * n)) ≡ product w a b
+  pub product-is : outcomeOf w false (withSign (differ s t) (m * n)) ≡ product w a b
   unfolding product
-  product-is = ap (result w false) product-number
+  product-is = ap (outcomeOf w false) product-number
 
-  pub long-product-is : result (w + w) false (withSign (differ s t) (m * n)) ≡ longProduct w a b
+  pub long-product-is : outcomeOf (w + w) false (withSign (differ s t) (m * n)) ≡ longProduct w a b
   unfolding longProduct
-  long-product-is = ap (result (w + w) false) product-number
+  long-product-is = ap (outcomeOf (w + w) false) product-number
 
 pub product-lt : (w B : ℕ) → T (ltb (2 ^ (w - 1) * 2 ^ (w - 1)) B) → {a b m n : ℕ} {s t : Bool} → Parts w a s m → Parts w b t n → m * n < B
 product-lt w B l x y = lt-of-le-of-lt (mul-le-mul (x .small) (y .small)) (lit< l)

@@ -13,7 +13,7 @@ use Rattle.whole.specs.Whole.{wrap, holds, withSign}
 use Rattle.whole.proofs.Diff.{order}
 use Rattle.whole.proofs.Laws.{half}
 use Rattle.whole.proofs.Signs.{differ, join-pos, join-neg, join-zero, long-pos, long-neg}
-use Rattle.fixed.specs.Fixed.{Outcome, result}
+use Rattle.fixed.specs.Fixed.{Outcome, outcomeOf}
 use Rattle.fixed.proofs.SumLines.{bit0}
 use Rattle.divide.specs.Divide.{product, longProduct}
 use Rattle.divide.proofs.PartsLaws.{Split, split, held}
@@ -72,7 +72,7 @@ module _ (w a b : ℕ) (p : 1 ≤ w) (la : a < 2 ^ w) (lb : b < 2 ^ w) where
     -- from the sign d and the bits P of the product
     product-by : (d : Bool) (P : ℕ) (o z f r : Bool) → differ s t ≡ d → wrap (w + w) (withSign d (m * n)) ≡ P → not (holds w (withSign d (m * n))) ≡ o →
         eqb (P / M) 0 ≡ z → eqb (P / M) (M - 1) ≡ f → bit0 w (P % M) ≡ r → o ≡ printed (not d) z f r (eqb m 0) (eqb n 0) → product w a b .overflow ≡ line
-    unfolding result
+    unfolding outcomeOf
     product-by d P o z f r ed eP eo ez ef er e =
         let v : longProduct w a b .value ≡ P = ap (λ (q : Outcome). q .value) (sym (long-product-is (x .parts) (y .parts))) ∙ ap (λ (c : Bool). wrap (w + w) (withSign c (m * n))) ed ∙ eP in
         ap (λ (q : Outcome). q .overflow) (sym (product-is (x .parts) (y .parts))) ∙ ap (λ (c : Bool). not (holds w (withSign c (m * n)))) ed ∙ eo ∙ e
@@ -159,7 +159,7 @@ module _ (w a b : ℕ) (p : 1 ≤ w) (la : a < 2 ^ w) (lb : b < 2 ^ w) where
       omega arith
 
   pub long-product-overflow : longProduct w a b .overflow ≡ false
-  unfolding result
+  unfolding outcomeOf
   long-product-overflow =
       split w a p la (λ s m x. split w b p lb (λ t n y.
       ap (λ (q : Outcome). q .overflow) (sym (long-product-is (x .parts) (y .parts))) ∙ held (w + w) (m * n) (differ s t) (long-lt (x .parts .small) (y .parts .small))))

@@ -11,7 +11,7 @@ use Rattle.whole.specs.Whole.{withSign, Parts}
 use Rattle.whole.proofs.Signs.{natAbs-sign, differ, quot-sign, rem-sign}
 use Rattle.word.specs.Status.{withCarry}
 use Rattle.fixed.specs.declared.Single.{Single}
-use Rattle.fixed.specs.Fixed.{Outcome, single, result}
+use Rattle.fixed.specs.Fixed.{Outcome, single, outcomeOf}
 use Rattle.divide.specs.declared.Quotient.{Quotient}
 use Rattle.divide.specs.Divide.{division, divided, longDivided, quotient}
 
@@ -29,9 +29,9 @@ rem-of s t m zero p = absurd (p refl)
 rem-of s t m (suc k) p = rem-sign s t m k
 
 pub division-is : (w : ℕ) (s t : Bool) (m k : ℕ) {q r : Single} → (k ≡ 0 → ⊥) →
-    q ≡ single (result w false (withSign (differ s t) (m / k))) → r ≡ single (result w false (withSign s (m % k))) →
+    q ≡ single (outcomeOf w false (withSign (differ s t) (m / k))) → r ≡ single (outcomeOf w false (withSign s (m % k))) →
     record { quotient = q .value; remainder = r .value; cs = q .cs; overflow = q .overflow } ≡ division w (withSign s m) (withSign t k)
-unfolding division single result withCarry
+unfolding division single outcomeOf withCarry
 division-is w s t m k p eq er = rw (eq, er, natAbs-sign t k, ne-eqb k 0 p, quot-of s t m k p, rem-of s t m k p)
 
 -- the quotient of two numbers, from their parts
@@ -50,7 +50,7 @@ module _ {w a b m k : ℕ} {s t : Bool} (x : Parts w a s m) (y : Parts w b t k) 
   unfolding quotient kept
   quotient-zero e = ap kept (division-zero w (withSign s m) t k e ∙ divided-is)
 
-  pub quotient-is : (k ≡ 0 → ⊥) → result w false (withSign (differ s t) (m / k)) ≡ quotient w a b
+  pub quotient-is : (k ≡ 0 → ⊥) → outcomeOf w false (withSign (differ s t) (m / k)) ≡ quotient w a b
   unfolding quotient kept single
   quotient-is p = ap kept (division-is w s t m k p refl refl ∙ divided-is)
 

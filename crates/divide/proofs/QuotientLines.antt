@@ -13,7 +13,7 @@ use Rattle.whole.specs.Whole.{signed, holds, withSign, Parts}
 use Rattle.whole.proofs.Diff.{order}
 use Rattle.whole.proofs.Laws.{half, signed-low}
 use Rattle.whole.proofs.Signs.{differ, long-pos, long-neg, parts-low, parts-high}
-use Rattle.fixed.specs.Fixed.{Outcome, result}
+use Rattle.fixed.specs.Fixed.{Outcome, outcomeOf}
 use Rattle.divide.specs.Divide.{divided, longDivided, quotient}
 use Rattle.divide.proofs.PartsLaws.{split, held}
 use Rattle.divide.proofs.QuotientLaws.{quotient-zero, quotient-is}
@@ -33,7 +33,7 @@ module _ (w a b : ℕ) (p : 1 ≤ w) (la : a < 2 ^ w) (lb : b < 2 ^ w) where
 
   by-other : {s t : Bool} {m k : ℕ} (o u v : Bool) → Parts w a s m → Parts w b t k → 0 < b → 0 < k → not (holds w (withSign (differ s t) (m / k))) ≡ o →
       eqb a lowest ≡ u → eqb b (2 ^ w - 1) ≡ v → o ≡ (u && v) → divided w a b .overflow ≡ (eqb b 0 || (eqb a lowest && eqb b (2 ^ w - 1)))
-  unfolding quotient result
+  unfolding quotient outcomeOf
   by-other o u v x y n g eo eu ev e =
       ap (λ (q : Outcome). q .overflow) (sym (quotient-is x y (λ z. omega arith))) ∙ eo ∙ e ∙ sym (rw (ne-eqb b 0 (λ z. omega arith), eu, ev) refl)
 

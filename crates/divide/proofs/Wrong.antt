@@ -5,7 +5,7 @@ use lib.Dec.{T}
 use Rattle.choice.proofs.Rows.{Row, some, hold, flag}
 use Rattle.whole.specs.Whole.{signed, wrap, holds}
 use Rattle.word.specs.Status.{status, withCarry}
-use Rattle.fixed.specs.Fixed.{single, double, result}
+use Rattle.fixed.specs.Fixed.{single, double, outcomeOf}
 use Rattle.fixed.proofs.Wrong.{parts16, parts32}
 use Rattle.divide.specs.declared.Quotient.{Quotient}
 use Rattle.divide.specs.Divide.{product, longProduct, division, divided, longDivided, quotient}
@@ -31,5 +31,5 @@ rows =
     ∷ []
 
 pub rows-hold : T (hold rows)
-unfolding rows signed wrap holds status withCarry single double result product longProduct division divided longDivided quotient
+unfolding rows signed wrap holds status withCarry single double outcomeOf product longProduct division divided longDivided quotient
 rows-hold = tt

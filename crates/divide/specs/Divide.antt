@@ -7,16 +7,16 @@ use lib.Signed.{quotZ, remZ}
 use lib.Dec.{leb, eqb}
 use Rattle.whole.specs.Whole.{signed, wrap, holds}
 use Rattle.word.specs.Status.{status}
-use Rattle.fixed.specs.Fixed.{Outcome, result}
+use Rattle.fixed.specs.Fixed.{Outcome, outcomeOf}
 use Rattle.divide.specs.declared.Quotient.{Quotient}
 
 -- multiply, keeping as many bits as an operand has (5.71, 5.73)
 unfoldable pub product : ℕ → ℕ → ℕ → Outcome
-product w a b = result w false (signed w a *ℤ signed w b)
+product w a b = outcomeOf w false (signed w a *ℤ signed w b)
 
 -- multiply, keeping all bits (5.72)
 unfoldable pub longProduct : ℕ → ℕ → ℕ → Outcome
-longProduct w a b = result (w + w) false (signed w a *ℤ signed w b)
+longProduct w a b = outcomeOf (w + w) false (signed w a *ℤ signed w b)
 
 -- the quotient of n and d toward zero, and the remainder with the sign of n (4.1.9), at w bits; a zero divisor overflows and gives zeros (4.1.4)
 unfoldable pub division : ℕ → ℤ → ℤ → Quotient

@@ -7,7 +7,7 @@ ghost use mathlib.Core.Path.{_≡_};
 ghost use mathlib.Core.Bool.{false};
 ghost use Prim.Native.Nat.{_<_};
 ghost use Rattle.whole.specs.Whole.{Parts, withSign};
-ghost use Rattle.fixed.specs.Fixed.{single, double, result};
+ghost use Rattle.fixed.specs.Fixed.{single, double, outcomeOf};
 
 // A whole number as a sign and a magnitude.
 pub(crate) struct Magnitude {
@@ -49,7 +49,7 @@ pub(crate) fn split32(a: u32) -> Magnitude
 
 // The 16-bit result of a sign and a magnitude.
 pub(crate) fn join16(neg: bool, size: u32) -> Single
-    ensures { λ r. ⌜ r ≡ single (result 16 false (withSign neg size)) ⌝ }
+    ensures { λ r. ⌜ r ≡ single (outcomeOf 16 false (withSign neg size)) ⌝ }
 {
     if neg {
         return narrow16(0x1_0000_0000 - size as u64, false);
@@ -60,7 +60,7 @@ pub(crate) fn join16(neg: bool, size: u32) -> Single
 // The 32-bit result of a sign and a magnitude. A product of two magnitudes is at most 2^62.
 pub(crate) fn join32(neg: bool, size: u64) -> Double
     requires { ⌜ size < 0x8000_0000_0000_0000 ⌝ }
-    ensures { λ r. ⌜ r ≡ double (result 32 false (withSign neg size)) ⌝ }
+    ensures { λ r. ⌜ r ≡ double (outcomeOf 32 false (withSign neg size)) ⌝ }
 {
     if neg {
         return narrow32(0x8000_0000_0000_0000 - size, false);

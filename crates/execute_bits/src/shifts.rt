@@ -4,11 +4,12 @@ ghost use mathlib.Core.List.{List};
 ghost use Prim.Native.Nat.{ℕ, _<_};
 ghost use Rattle.decode.specs.Forms.{operationOf};
 ghost use Rattle.shift.specs.Shift.{Shifted, shifted16, shifted32};
-ghost use Rattle.isa.specs.Words.{registerPair, shiftedSingle, shiftedDouble, shiftOperation};
+ghost use Rattle.isa.specs.Words.{shiftedSingle, shiftedDouble, shiftOperation};
 ghost use Rattle.effect.specs.Work.{context, worked};
 use access::fields::field_a;
 use access::fields::field_b;
 use access::fields::get;
+use access::fields::pair_at;
 use effect::Work;
 use effect::fixed_overflow;
 use effect::shapes::double;
@@ -34,18 +35,9 @@ use shift::places::left32;
 use shift::places::right16;
 use shift::places::right32;
 use word::pair::high;
-use word::pair::join;
 use word::pair::low;
 use word::status::status16;
 use word::status::status32;
-
-// The double word of register k and the next; k is a field of four bits.
-fn register_pair(regs: &[u16; 16], k: u16) -> u32
-    requires { ⌜ k < 16 ⌝ }
-    ensures { λ r. ⌜ r ≡ registerPair (now (regs .entry)) k ⌝ }
-{
-    join(get(regs, k), get(regs, k + 1))
-}
 
 // RA after a shift by a count in a register.
 fn shifted_single(ic: u16, pi: u16, n: Instruction, s: Shifted16) -> Work
@@ -94,16 +86,16 @@ pub fn shift_operation(regs: &[u16; 16], ic: u16, sw: u16, pi: u16, n: Instructi
         11 => single(ic, pi, n, b, right16(rb, a + 1)),
         12 => single(ic, pi, n, b, arith16(rb, a + 1)),
         13 => single(ic, pi, n, b, cyclic16(rb, a + 1)),
-        14 => double(ic, pi, n, b, left32(register_pair(regs, b), a + 1)),
-        15 => double(ic, pi, n, b, right32(register_pair(regs, b), a + 1)),
-        16 => double(ic, pi, n, b, arith32(register_pair(regs, b), a + 1)),
-        17 => double(ic, pi, n, b, cyclic32(register_pair(regs, b), a + 1)),
+        14 => double(ic, pi, n, b, left32(pair_at(regs, b), a + 1)),
+        15 => double(ic, pi, n, b, right32(pair_at(regs, b), a + 1)),
+        16 => double(ic, pi, n, b, arith32(pair_at(regs, b), a + 1)),
+        17 => double(ic, pi, n, b, cyclic32(pair_at(regs, b), a + 1)),
         18 => shifted_single(ic, pi, n, logical16(get(regs, a), rb)),
         19 => shifted_single(ic, pi, n, arithmetic16(get(regs, a), rb)),
         20 => shifted_single(ic, pi, n, circular16(get(regs, a), rb)),
-        21 => shifted_double(ic, pi, n, logical32(register_pair(regs, a), rb)),
-        22 => shifted_double(ic, pi, n, arithmetic32(register_pair(regs, a), rb)),
-        23 => shifted_double(ic, pi, n, circular32(register_pair(regs, a), rb)),
+        21 => shifted_double(ic, pi, n, logical32(pair_at(regs, a), rb)),
+        22 => shifted_double(ic, pi, n, arithmetic32(pair_at(regs, a), rb)),
+        23 => shifted_double(ic, pi, n, circular32(pair_at(regs, a), rb)),
         _ => nothing(ic, sw, pi, n),
     }
 }

@@ -9,7 +9,7 @@ ghost use Rattle.isa.specs.Integers.{singleOutcome, doubleOutcome, memoryOutcom
 ghost use Rattle.effect.specs.Work.{context, worked};
 ghost use Rattle.execute_integers.specs.Doubles.{arithmetic};
 use access::addressing::double_operand;
-use access::fields::get;
+use access::fields::pair_at;
 use divide::Quotient;
 use divide::products::multiply32;
 use divide::quotients::divide32;
@@ -22,16 +22,7 @@ use fixed::Double;
 use fixed::Single;
 use machine::Instruction;
 use word::pair::high;
-use word::pair::join;
 use word::pair::low;
-
-// The double word of register k and the next. k is a register's number.
-pub(crate) fn pair_at(regs: &[u16; 16], k: u16) -> u32
-    requires { ⌜ k < 16 ⌝ }
-    ensures { λ r. ⌜ r ≡ registerPair (now (regs .entry)) k ⌝ }
-{
-    join(get(regs, k), get(regs, k + 1))
-}
 
 // Register k gets an outcome of 16 bits.
 pub(crate) fn single_outcome(ic: u16, pi: u16, n: Instruction, k: u16, s: Single) -> Work

@@ -6,7 +6,7 @@ use lib.Dec.{T, eqb}
 use Rattle.choice.proofs.Rows.{allOf}
 use Rattle.whole.specs.Whole.{signed, wrap, holds}
 use Rattle.word.specs.Status.{status, withCarry}
-use Rattle.fixed.specs.Fixed.{Outcome, result, sum, absolute, difference, negated}
+use Rattle.fixed.specs.Fixed.{Outcome, outcomeOf, sum, absolute, difference, negated}
 
 -- what is computed, and what it must be: the value, the condition status, and overflow
 pub data Row : Type 0 where
@@ -45,5 +45,5 @@ rows =
     ∷ []
 
 pub rows-hold : T (allOf right rows)
-unfolding right rows signed wrap holds status withCarry result sum absolute difference negated
+unfolding right rows signed wrap holds status withCarry outcomeOf sum absolute difference negated
 rows-hold = tt

@@ -12,7 +12,7 @@ use Rattle.whole.specs.Whole.{wrap, holds}
 use Rattle.whole.proofs.Diff.{order}
 use Rattle.whole.proofs.Laws.{wrap-diff, holds-yes, holds-low, holds-high}
 use Rattle.word.specs.Status.{status, withCarry}
-use Rattle.fixed.specs.Fixed.{result}
+use Rattle.fixed.specs.Fixed.{outcomeOf}
 
 -- a status without carry is below 8
 pub status-lt : (w n : ℕ) → status w n < 8
@@ -35,9 +35,9 @@ not-held w K x p =
 
 -- the outcome of x - K, where K is a multiple of 2^w
 pub narrowed : (v w x : ℕ) (c : Bool) →
-    result w c (subℕ x (2 ^ (v + w)))
+    outcomeOf w c (subℕ x (2 ^ (v + w)))
     ≡ record { value = x % 2 ^ w; cs = withCarry c (status w (x % 2 ^ w)); overflow = ltb x (2 ^ (v + w) - 2 ^ (w - 1)) || leb (2 ^ (v + w) + 2 ^ (w - 1)) x }
-unfolding result
+unfolding outcomeOf
 narrowed v w x c =
     ap₂ (λ (n : ℕ) (o : Bool). record { value = n; cs = withCarry c (status w n); overflow = o })
     (ap (λ (k : ℕ). wrap w (subℕ x k)) (pow-add 2 v w) ∙ wrap-diff w x (2 ^ v))

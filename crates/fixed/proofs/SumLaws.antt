@@ -12,7 +12,7 @@ use borrow.Author.Tests.{le-leb, lt-leb}
 use Rattle.whole.specs.Whole.{signed}
 use Rattle.whole.proofs.Diff.{order, diff-pos, diff-eq, diff-add, diff-sub, diff-negate}
 use Rattle.whole.proofs.Laws.{half, excess, signed-low, signed-high, wrap-add, wrap-sub}
-use Rattle.fixed.specs.Fixed.{result, sum, absolute, difference, negated}
+use Rattle.fixed.specs.Fixed.{outcomeOf, sum, absolute, difference, negated}
 
 -- the carry out of a plus the complement of b plus 1 is that there is no borrow
 pub no-borrow : (w a b : ℕ) → b < 2 ^ w → leb b a ≡ leb (2 ^ w) (a + (2 ^ w - 1 - b) + 1)
@@ -22,11 +22,11 @@ no-borrow w a b l =
 
 -- the bits of a sum and of a difference
 pub sum-value : (w a b : ℕ) → a < 2 ^ w → b < 2 ^ w → sum w a b .value ≡ (a + b) % 2 ^ w
-unfolding sum result
+unfolding sum outcomeOf
 sum-value w a b la lb = wrap-add w a b la lb
 
 pub difference-value : (w a b : ℕ) → a < 2 ^ w → b < 2 ^ w → difference w a b .value ≡ (a + (2 ^ w - b)) % 2 ^ w
-unfolding difference result
+unfolding difference outcomeOf
 difference-value w a b la lb = wrap-sub w a b la lb
 
 -- e is the number of the w bits a, plus 2^(w-1)
@@ -46,39 +46,39 @@ module _ (v w : ℕ) (p : 1 ≤ w) where
   room = pow-mono (let l : w ≤ v + w = omega arith in l)
 
   module _ {a e : ℕ} (x : Excess w a e) where
-    pub negated-is : result w false (subℕ (K + 2 ^ (w - 1) - e) K) ≡ negated w a
+    pub negated-is : outcomeOf w false (subℕ (K + 2 ^ (w - 1) - e) K) ≡ negated w a
     unfolding negated
     negated-is =
         let h = 2 ^ (w - 1) in
         let l = x .below in
         let r = room in
-        ap (result w false) (sym (ap negℤ (x .number) ∙ diff-negate e h ∙ diff-eq h e (K + h - e) K (omega arith)))
+        ap (outcomeOf w false) (sym (ap negℤ (x .number) ∙ diff-negate e h ∙ diff-eq h e (K + h - e) K (omega arith)))
 
     module _ {b f : ℕ} (y : Excess w b f) where
-      pub sum-is : result w (leb (2 ^ w) (a + b)) (subℕ (e + f + (K - 2 ^ w)) K) ≡ sum w a b
+      pub sum-is : outcomeOf w (leb (2 ^ w) (a + b)) (subℕ (e + f + (K - 2 ^ w)) K) ≡ sum w a b
       unfolding sum
       sum-is =
           let h = 2 ^ (w - 1) in
           let d = half w p in
           let r = room in
-          ap (result w (leb (2 ^ w) (a + b)))
+          ap (outcomeOf w (leb (2 ^ w) (a + b)))
           (sym (ap (λ z. z +ℤ signed w b) (x .number) ∙ ap (λ z. subℕ e h +ℤ z) (y .number) ∙ diff-add e h f h ∙ diff-eq (e + f) (h + h) (e + f + (K - 2 ^ w)) K (omega arith)))
 
-      pub difference-is : b < 2 ^ w → result w (leb b a) (subℕ (e + K - f) K) ≡ difference w a b
+      pub difference-is : b < 2 ^ w → outcomeOf w (leb b a) (subℕ (e + K - f) K) ≡ difference w a b
       unfolding difference
       difference-is l =
           let h = 2 ^ (w - 1) in
           let u = y .below in
           let r = room in
-          ap (λ (c : Bool). result w c (subℕ (e + K - f) K)) (no-borrow w a b l)
-          ∙ ap (result w (leb (2 ^ w) (a + (2 ^ w - 1 - b) + 1)))
+          ap (λ (c : Bool). outcomeOf w c (subℕ (e + K - f) K)) (no-borrow w a b l)
+          ∙ ap (outcomeOf w (leb (2 ^ w) (a + (2 ^ w - 1 - b) + 1)))
           (sym (ap (λ z. z -ℤ signed w b) (x .number) ∙ ap (λ z. subℕ e h -ℤ z) (y .number) ∙ diff-sub e h f h ∙ diff-eq (e + h) (h + f) (e + K - f) K (omega arith)))
 
 -- at or above zero the absolute value is the number itself, below zero its negation
-pub absolute-low : (w K a : ℕ) → a < 2 ^ (w - 1) → result w false (subℕ (a + K) K) ≡ absolute w a
+pub absolute-low : (w K a : ℕ) → a < 2 ^ (w - 1) → outcomeOf w false (subℕ (a + K) K) ≡ absolute w a
 unfolding absolute
-absolute-low w K a l = ap (result w false) (diff-pos a (a + K) K (omega arith) ∙ sym (ap (λ z. pos (natAbs z)) (signed-low w a l)))
+absolute-low w K a l = ap (outcomeOf w false) (diff-pos a (a + K) K (omega arith) ∙ sym (ap (λ z. pos (natAbs z)) (signed-low w a l)))
 
 pub absolute-high : (w a : ℕ) → 2 ^ (w - 1) ≤ a → negated w a ≡ absolute w a
 unfolding absolute negated
-absolute-high w a l = let e = signed-high w a l in ap (λ z. result w false (negℤ z)) e ∙ sym (ap (λ z. result w false (pos (natAbs z))) e)
+absolute-high w a l = let e = signed-high w a l in ap (λ z. outcomeOf w false (negℤ z)) e ∙ sym (ap (λ z. outcomeOf w false (pos (natAbs z))) e)

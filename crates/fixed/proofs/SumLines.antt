@@ -11,7 +11,7 @@ use borrow.Author.Tests.{lt-ltb, le-leb, lt-leb, eq-eqb, ne-eqb, leb-true, eqb-t
 use Rattle.whole.specs.Whole.{signed, holds}
 use Rattle.whole.proofs.Diff.{order, pos-diff, diff-neg, diff-add, diff-sub, diff-negate}
 use Rattle.whole.proofs.Laws.{half, signed-low, signed-high, holds-yes, holds-low, holds-high}
-use Rattle.fixed.specs.Fixed.{Outcome, result, sum, absolute, difference, negated}
+use Rattle.fixed.specs.Fixed.{Outcome, outcomeOf, sum, absolute, difference, negated}
 use Rattle.fixed.proofs.SumLaws.{sum-value, difference-value, absolute-high}
 
 -- bit 0 of w bits, the sign
@@ -47,7 +47,7 @@ module _ (w a b : ℕ) (p : 1 ≤ w) (la : a < 2 ^ w) (lb : b < 2 ^ w) where
   sum-by : {i j : ℕ} {s t : Bool} (v : ℕ) (r o : Bool) → Side w a i s → Side w b j t → (a + b) % M ≡ v → bit0 w v ≡ r → holds w (subℕ (a + b) (i + j)) ≡ o →
       not o ≡ (Bool·beq s t && not (Bool·beq s r)) →
       sum w a b .overflow ≡ (Bool·beq (bit0 w a) (bit0 w b) && not (Bool·beq (bit0 w a) (bit0 w (sum w a b .value))))
-  unfolding sum result
+  unfolding sum outcomeOf
   sum-by {i} {j} v r o x y ev er eo e =
       ap (λ z. not (holds w z)) (ap₂ _+ℤ_ (x .number) (y .number) ∙ diff-add a i b j) ∙ ap not eo ∙ e
       ∙ sym (rw (x .sign, y .sign, sum-value w a b la lb, ev, er) refl)
@@ -77,7 +77,7 @@ module _ (w a b : ℕ) (p : 1 ≤ w) (la : a < 2 ^ w) (lb : b < 2 ^ w) where
   difference-by : {i j : ℕ} {s t : Bool} (v : ℕ) (r o : Bool) → Side w a i s → Side w b j t → (a + (M - b)) % M ≡ v → bit0 w v ≡ r → holds w (subℕ (a + j) (i + b)) ≡ o →
       not o ≡ (not (Bool·beq s t) && Bool·beq r t) →
       difference w a b .overflow ≡ (not (Bool·beq (bit0 w a) (bit0 w b)) && Bool·beq (bit0 w (difference w a b .value)) (bit0 w b))
-  unfolding difference result
+  unfolding difference outcomeOf
   difference-by {i} {j} v r o x y ev er eo e =
       ap (λ z. not (holds w z)) (ap₂ _-ℤ_ (x .number) (y .number) ∙ diff-sub a i b j) ∙ ap not eo ∙ e
       ∙ sym (rw (x .sign, y .sign, difference-value w a b la lb, ev, er) refl)
@@ -141,7 +141,7 @@ decrement-overflow w a n p l u =
 -- 5.65, 5.66 and 5.57, 5.58: the operand is the lowest number
 module _ (w a : ℕ) (p : 1 ≤ w) (l : a < 2 ^ w) where
   negated-by : {i : ℕ} {s : Bool} (o : Bool) → Side w a i s → holds w (subℕ i a) ≡ o → eqb a (2 ^ (w - 1)) ≡ not o → negated w a .overflow ≡ eqb a (2 ^ (w - 1))
-  unfolding negated result
+  unfolding negated outcomeOf
   negated-by {i} o x eo e = ap (λ z. not (holds w z)) (ap negℤ (x .number) ∙ diff-negate a i) ∙ ap not eo ∙ sym e
 
   pub negated-overflow : negated w a .overflow ≡ eqb a (2 ^ (w - 1))
@@ -155,7 +155,7 @@ module _ (w a : ℕ) (p : 1 ≤ w) (l : a < 2 ^ w) where
       (order a H)
 
   absolute-below : a < 2 ^ (w - 1) → absolute w a .overflow ≡ false
-  unfolding absolute result holds
+  unfolding absolute outcomeOf holds
   absolute-below x = ap not (ap (λ z. holds w (pos (natAbs z))) (signed-low w a x) ∙ lt-ltb a (2 ^ (w - 1)) x)
 
   pub absolute-overflow : absolute w a .overflow ≡ eqb a (2 ^ (w - 1))

@@ -9,7 +9,7 @@ use Rattle.whole.specs.Whole.{signed, wrap, holds}
 use Rattle.word.specs.Status.{status, withCarry}
 use Rattle.fixed.specs.declared.Single.{Single}
 use Rattle.fixed.specs.declared.Double.{Double}
-use Rattle.fixed.specs.Fixed.{single, double, result, sum, absolute, difference, negated}
+use Rattle.fixed.specs.Fixed.{single, double, outcomeOf, sum, absolute, difference, negated}
 
 -- the value, the condition status, and overflow
 abbrev pub parts16 : Single → List ℕ
@@ -21,9 +21,9 @@ parts32 x = x .value ∷ x .cs ∷ flag (x .overflow) ∷ []
 pub rows : List Row
 rows =
     -- narrow::narrow16: 8000 above zero without overflow; the largest number instead
-    some (parts16 (single (result 16 false (subℕ 0x1_0000_8000 0x1_0000_0000)))) (0x8000 ∷ 1 ∷ 1 ∷ []) (0x8000 ∷ 1 ∷ 0 ∷ []) (0x7FFF ∷ 4 ∷ 1 ∷ [])
+    some (parts16 (single (outcomeOf 16 false (subℕ 0x1_0000_8000 0x1_0000_0000)))) (0x8000 ∷ 1 ∷ 1 ∷ []) (0x8000 ∷ 1 ∷ 0 ∷ []) (0x7FFF ∷ 4 ∷ 1 ∷ [])
     -- narrow::narrow32: one below the lowest number without overflow; the carry lost
-    ∷ some (parts32 (double (result 32 true (subℕ 0x7FFF_FFFF_7FFF_FFFF 0x8000_0000_0000_0000))))
+    ∷ some (parts32 (double (outcomeOf 32 true (subℕ 0x7FFF_FFFF_7FFF_FFFF 0x8000_0000_0000_0000))))
     (0x7FFF_FFFF ∷ 12 ∷ 1 ∷ []) (0x7FFF_FFFF ∷ 12 ∷ 0 ∷ []) (0x7FFF_FFFF ∷ 4 ∷ 1 ∷ [])
     -- sums::add16: no overflow; the carry out of bit 1
     ∷ some (parts16 (single (sum 16 0x7FFF 1))) (0x8000 ∷ 1 ∷ 1 ∷ []) (0x8000 ∷ 1 ∷ 0 ∷ []) (0x8000 ∷ 9 ∷ 1 ∷ [])
@@ -44,5 +44,5 @@ rows =
     ∷ []
 
 pub rows-hold : T (hold rows)
-unfolding rows signed wrap holds status withCarry single double result sum absolute difference negated
+unfolding rows signed wrap holds status withCarry single double outcomeOf sum absolute difference negated
 rows-hold = tt

@@ -9,7 +9,7 @@ ghost use Prim.Native.Nat.{_+_, _%_, _<_};
 ghost use lib.Dec.{ltb, leb};
 ghost use lib.IntN.{subℕ};
 ghost use Rattle.word.specs.Status.{withCarry};
-ghost use Rattle.fixed.specs.Fixed.{single, double, result};
+ghost use Rattle.fixed.specs.Fixed.{single, double, outcomeOf};
 
 // The number that 16 bits stand for, plus 2^15.
 pub(crate) fn excess16(a: u16) -> u64
@@ -48,7 +48,7 @@ fn with_carry(carry: bool, cs: u16) -> u16
 
 // The result x - 2^32 at 16 bits.
 pub fn narrow16(x: u64, carry: bool) -> Single
-    ensures { λ r. ⌜ r ≡ single (result 16 carry (subℕ x 0x1_0000_0000)) ⌝ }
+    ensures { λ r. ⌜ r ≡ single (outcomeOf 16 carry (subℕ x 0x1_0000_0000)) ⌝ }
 {
     let value = (x % 0x1_0000) as u16;
     Single {
@@ -60,7 +60,7 @@ pub fn narrow16(x: u64, carry: bool) -> Single
 
 // The result x - 2^63 at 32 bits.
 pub fn narrow32(x: u64, carry: bool) -> Double
-    ensures { λ r. ⌜ r ≡ double (result 32 carry (subℕ x 0x8000_0000_0000_0000)) ⌝ }
+    ensures { λ r. ⌜ r ≡ double (outcomeOf 32 carry (subℕ x 0x8000_0000_0000_0000)) ⌝ }
 {
     let value = (x % 0x1_0000_0000) as u32;
     Double {

@@ -14,7 +14,7 @@ use Rattle.image.specs.Image.{countOf, entryAt, wordsBefore, tableEnd, b
 
 -- ---- the words of the bodies
 
-pub words-more : (b : List ℕ) (k : ℕ) → wordsBefore b (k + 1) ≡ wordsBefore b k + entryAt b k .length
+pub words-more : (b : List ℕ) (k : ℕ) → wordsBefore b (k + 1) ≡ wordsBefore b k + entryAt b k .words
 unfolding wordsBefore
 words-more b k = rw add-one refl
 
@@ -51,11 +51,11 @@ module _ (memory : ℕ) (b : List ℕ) (k : ℕ) (e : Entry) (f : e ≡ entryAt 
     kind-above h = rw (← f, le-leb _ _ low, lt-leb _ _ h) refl
 
     module _ (high : e .kind ≤ 4) where
-      pub no-words : e .length < 1 → BadRange ≡ entryAnswer memory b k
+      pub no-words : e .words < 1 → BadRange ≡ entryAnswer memory b k
       unfolding entryAnswer asked
       no-words h = rw (← f, le-leb _ _ low, le-leb _ _ high, lt-leb _ _ h) refl
 
-      module _ (some : 1 ≤ e .length) (size : ℕ) (g : size ≡ targetSize memory (e .kind)) (end : ℕ) (i : end ≡ endOf e) where
+      module _ (some : 1 ≤ e .words) (size : ℕ) (g : size ≡ targetSize memory (e .kind)) (end : ℕ) (i : end ≡ endOf e) where
         pub outside : size < end → BadRange ≡ entryAnswer memory b k
         unfolding entryAnswer asked
         outside h = rw (← f, le-leb _ _ low, le-leb _ _ high, le-leb _ _ some, ← g, ← i, lt-leb _ _ h) refl

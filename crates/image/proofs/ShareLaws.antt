@@ -21,7 +21,7 @@ module _ (e f : Entry) where
   unfolding share
   shared-share s = rw (eq-eqb _ _ (s .kind-is), lt-ltb (e .start) (endOf f) (omega arith), lt-ltb (f .start) (endOf e) (omega arith)) refl
 
-  pub share-shared : 1 ≤ e .length → 1 ≤ f .length → share e f ≡ true → Shared e f
+  pub share-shared : 1 ≤ e .words → 1 ≤ f .words → share e f ≡ true → Shared e f
   unfolding share endOf
   share-shared m n h =
       let p = and-yes (eqb (e .kind) (f .kind)) _ h in

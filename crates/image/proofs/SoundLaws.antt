@@ -33,7 +33,7 @@ module _ (memory : ℕ) (b : List ℕ) where
   -- an entry that is accepted lies within its target
   entry-within : (k : ℕ) → numberOf (entryAnswer memory b k) ≡ 0 → endOf (entryAt b k) ≤ targetSize memory (entryAt b k .kind)
   unfolding entryAnswer
-  entry-within k h = leb-true _ _ (and-yes (leb 1 (entryAt b k .length)) _ (asked-yes _ _ _ (λ z. omega arith) (asked-yes _ _ _ (λ z. omega arith) h .1) .0) .1)
+  entry-within k h = leb-true _ _ (and-yes (leb 1 (entryAt b k .words)) _ (asked-yes _ _ _ (λ z. omega arith) (asked-yes _ _ _ (λ z. omega arith) h .1) .0) .1)
 
   module _ (n k : ℕ) (l : 0 < n) (h : numberOf (entriesAnswer memory b n k) ≡ 0) where
     -- so does the first of those that are left

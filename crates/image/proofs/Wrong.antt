@@ -18,7 +18,7 @@ rows =
     -- table::count: the first byte alone; the second byte first
     ∷ one (countOf (1 ∷ 2 ∷ 3 ∷ [])) 0x0102 1 0x0201
     -- table::entry_at: the entry before; start and length exchanged
-    ∷ some (let e = entryAt image 1 in e .kind ∷ e .start ∷ e .length ∷ [])
+    ∷ some (let e = entryAt image 1 in e .kind ∷ e .start ∷ e .words ∷ [])
     (0x0C0D ∷ 0x0E0F1011 ∷ 0x12131415 ∷ []) (0x0203 ∷ 0x04050607 ∷ 0x08090A0B ∷ []) (0x0C0D ∷ 0x12131415 ∷ 0x0E0F1011 ∷ [])
     ∷ []
 

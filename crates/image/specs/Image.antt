@@ -31,12 +31,12 @@ countOf b = wordAt b 0
 
 -- entry k, the first being 0: its kind (2 bytes), start (4) and length in words (4)
 unfoldable pub entryAt : List ℕ → ℕ → Entry
-entryAt b k = record { kind = wordAt b (2 + 10 * k); start = longAt b (4 + 10 * k); length = longAt b (8 + 10 * k) }
+entryAt b k = record { kind = wordAt b (2 + 10 * k); start = longAt b (4 + 10 * k); words = longAt b (8 + 10 * k) }
 
 -- the words of the first k bodies
 unfoldable pub wordsBefore : List ℕ → ℕ → ℕ
 wordsBefore b zero = 0
-wordsBefore b (suc k) = wordsBefore b k + entryAt b k .length
+wordsBefore b (suc k) = wordsBefore b k + entryAt b k .words
 
 -- the byte after the table
 unfoldable pub tableEnd : List ℕ → ℕ
@@ -82,7 +82,7 @@ targetSize memory kind = cond (eqb kind 1) memory (cond (eqb kind 2) 512 (cond (
 
 -- the word after those that an entry fills
 unfoldable pub endOf : Entry → ℕ
-endOf e = e .start + e .length
+endOf e = e .start + e .words
 
 -- whether two entries share a word: they are of one kind, and each starts before the other ends
 unfoldable pub share : Entry → Entry → Bool
@@ -99,7 +99,7 @@ module _ (memory : ℕ) (b : List ℕ) where
   entryAnswer k =
       let e = entryAt b k in
       asked (leb 1 (e .kind) && leb (e .kind) 4) BadKind
-      (asked (leb 1 (e .length) && leb (endOf e) (targetSize memory (e .kind))) BadRange
+      (asked (leb 1 (e .words) && leb (endOf e) (targetSize memory (e .kind))) BadRange
       (asked (not (sharesEarlier b e k)) SharedWord
       Accepted))
 
@@ -149,7 +149,7 @@ withWords kind i ws x =
 module _ (b : List ℕ) where
   -- after the body of entry k is written
   unfoldable pub withBody : ℕ → Machine → Machine
-  withBody k x = let e = entryAt b k in withWords (e .kind) (e .start) (wordsFrom b (bodyAt b k) (e .length)) x
+  withBody k x = let e = entryAt b k in withWords (e .kind) (e .start) (wordsFrom b (bodyAt b k) (e .words)) x
 
   -- after n bodies are written, of which the first has the number k
   unfoldable pub withBodies : ℕ → ℕ → Machine → Machine

@@ -7,7 +7,7 @@ pub mod table;
 pub struct Entry {
     pub kind: u16,
     pub start: u32,
-    pub length: u32,
+    pub words: u32,
 }
 
 // The answer to loading: it is done, or what the first question answered by "no" was about. Of the image: there are no two bytes for the

@@ -2,7 +2,6 @@
 ghost use mathlib.Core.Path.{_≡_};
 ghost use Prim.Native.Nat.{_+_, _*_, _≤_};
 ghost use lib.ListN.{length};
-ghost use Rattle.machine.specs.Runs.{wholePages};
 ghost use Rattle.image.specs.Image.{targetSize, share, sharesEarlier, numberOf, entryAnswer, entriesAnswer, imageAnswer, admission};
 use crate::Entry;
 use crate::Loading;
@@ -10,6 +9,7 @@ use crate::table::count;
 use crate::table::end;
 use crate::table::entry_at;
 use crate::table::words_before;
+use machine::whole_pages;
 
 // The Scope's number of an answer.
 pub fn number(a: Loading) -> u16
@@ -28,19 +28,6 @@ pub fn number(a: Loading) -> u16
         Loading::SharedWord => 11,
         Loading::BadBodies => 12,
     }
-}
-
-// Whether a memory is a multiple of 4,096 words, from 4,096 to 1,048,576.
-fn whole_pages(memory: usize) -> bool
-    ensures { λ r. ⌜ r ≡ wholePages memory ⌝ }
-{
-    if memory % 4096 != 0 {
-        return false;
-    }
-    if memory < 4096 {
-        return false;
-    }
-    memory <= 1048576
 }
 
 // The words of the target of a kind.
@@ -95,7 +82,7 @@ fn check_entry(image: &[u8], memory: usize, k: usize) -> Loading
     if 4 < e.kind {
         return Loading::BadKind;
     }
-    if e.length < 1 {
+    if e.words < 1 {
         return Loading::BadRange;
     }
     if (target_size(memory, e.kind) as u64) < end(e) {

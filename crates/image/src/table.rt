@@ -46,7 +46,7 @@ pub fn entry_at(image: &[u8], k: usize) -> Entry
     Entry {
         kind: word_at(image, 2 + 10 * k),
         start: long_at(image, 4 + 10 * k),
-        length: long_at(image, 8 + 10 * k),
+        words: long_at(image, 8 + 10 * k),
     }
 }
 
@@ -54,7 +54,7 @@ pub fn entry_at(image: &[u8], k: usize) -> Entry
 pub(crate) fn end(e: Entry) -> u64
     ensures { λ r. ⌜ r ≡ endOf e ⌝ }
 {
-    e.start as u64 + e.length as u64
+    e.start as u64 + e.words as u64
 }
 
 // The words of the first n bodies. No caller has more than 64, whose lengths of 32 bits do not wrap.
@@ -66,7 +66,7 @@ pub(crate) fn words_before(image: &[u8], n: usize) -> usize
     let mut k: usize = 0;
     while k < n {
         let e = entry_at(image, k);
-        total += e.length as usize;
+        total += e.words as usize;
         k += 1;
     }
     total

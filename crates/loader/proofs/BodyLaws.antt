@@ -44,17 +44,17 @@ module _ (b : List ℕ) where
 
   module _ (e : Entry) (k : ℕ) (f : e ≡ entryAt b k) (a : ℕ) (g : a ≡ bodyAt b k) where
     pub bodies-step : (n : ℕ) (x : Machine) → 0 < n
-        → withBodies b n k x ≡ withBodies b (n - 1) (k + 1) (withWords (e .kind) (e .start) (wordsFrom b a (e .length)) x)
+        → withBodies b n k x ≡ withBodies b (n - 1) (k + 1) (withWords (e .kind) (e .start) (wordsFrom b a (e .words)) x)
     unfolding withBodies withBody
     bodies-step zero x h = absurd (omega arith)
     bodies-step (suc n) x h = rw (sub-one, add-one, f, g) refl
 
-    pub body-next : a + 2 * e .length ≡ bodyAt b (k + 1)
+    pub body-next : a + 2 * e .words ≡ bodyAt b (k + 1)
     unfolding bodyAt
     body-next = rw (f, g, words-more) (omega arith)
 
     -- the image has all its bytes
-    pub body-inside : (memory : ℕ) → Sound memory b → (n : ℕ) → k + n ≡ countOf b → 0 < n → a + 2 * e .length ≤ length b
+    pub body-inside : (memory : ℕ) → Sound memory b → (n : ℕ) → k + n ≡ countOf b → 0 < n → a + 2 * e .words ≤ length b
     unfolding bodyAt
     body-inside memory s n h l =
         let p : k + 1 + (n - 1) ≡ countOf b = omega arith in
@@ -71,21 +71,21 @@ module _ (b : List ℕ) where
 
 -- the words that an entry fills, in a memory of m words
 module _ (e : Entry) (m : ℕ) (h : endOf e ≤ targetSize m (e .kind)) where
-  pub within-memory : e .kind ≡ 1 → e .start + e .length ≤ m
+  pub within-memory : e .kind ≡ 1 → e .start + e .words ≤ m
   unfolding endOf targetSize
   within-memory k = rw (eq-eqb _ _ k) at h
 
   module _ (n : e .kind ≡ 1 → ⊥) where
-    pub within-pages : e .kind ≡ 2 → e .start + e .length ≤ 512
+    pub within-pages : e .kind ≡ 2 → e .start + e .words ≤ 512
     unfolding endOf targetSize
     within-pages k = rw (ne-eqb _ _ n, eq-eqb _ _ k) at h
 
     module _ (o : e .kind ≡ 2 → ⊥) where
-      pub within-registers : e .kind ≡ 3 → e .start + e .length ≤ 16
+      pub within-registers : e .kind ≡ 3 → e .start + e .words ≤ 16
       unfolding endOf targetSize
       within-registers k = rw (ne-eqb _ _ n, ne-eqb _ _ o, eq-eqb _ _ k) at h
 
-      pub within-control : (e .kind ≡ 3 → ⊥) → e .start + e .length ≤ 5
+      pub within-control : (e .kind ≡ 3 → ⊥) → e .start + e .words ≤ 5
       unfolding endOf targetSize
       within-control p = rw (ne-eqb _ _ n, ne-eqb _ _ o, ne-eqb _ _ p) at h
 

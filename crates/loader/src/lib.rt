@@ -77,12 +77,12 @@ fn write_body(
     memory: &mut [u16],
     pages: &mut [u16],
 ) -> State
-    requires { ⌜ (endOf e ≤ targetSize (length (now memory)) (e .kind)) × (length (now pages) ≡ 512) × (at + 2 * e .length ≤ length (now image)) ⌝ }
-    ensures { λ r. ⌜ ((ports : List ℕ) → Became (withWords (e .kind) (e .start) (wordsFrom (now (image .entry)) at (e .length))
+    requires { ⌜ (endOf e ≤ targetSize (length (now memory)) (e .kind)) × (length (now pages) ≡ 512) × (at + 2 * e .words ≤ length (now image)) ⌝ }
+    ensures { λ r. ⌜ ((ports : List ℕ) → Became (withWords (e .kind) (e .start) (wordsFrom (now (image .entry)) at (e .words))
         (machine s (now (memory .entry)) (now (pages .entry)) ports)) r (now (memory .exit)) (now (pages .exit)) ports) ⌝ }
 {
     let start = e.start as usize;
-    let n = e.length as usize;
+    let n = e.words as usize;
     if e.kind == 1 {
         write_words(memory, start, image, at, n);
         return s;
@@ -111,7 +111,7 @@ fn write_bodies(s: State, image: &[u8], memory: &mut [u16], pages: &mut [u16]) -
     while 0 < left {
         let e = entry_at(image, k);
         t = write_body(t, image, e, at, memory, pages);
-        at += 2 * e.length as usize;
+        at += 2 * e.words as usize;
         k += 1;
         left -= 1;
     }

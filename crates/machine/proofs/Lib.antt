@@ -10,3 +10,4 @@ pub mod Opened
 pub mod Samples
 pub mod Differing
 pub mod Rows
+pub mod Wrong

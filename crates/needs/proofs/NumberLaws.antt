@@ -13,7 +13,7 @@ use Rattle.choice.proofs.SelectLaws.{otherwise}
 use Rattle.choice.proofs.TestLaws.{both, either, same, passes}
 use Rattle.choice.proofs.TableLaws.{listed}
 use Rattle.decode.specs.Forms.{modeOf, operationOf}
-use Rattle.decode.specs.Decode.{lookup, decodeOf, formOf}
+use Rattle.decode.specs.Decode.{formClaimed, decodeOf, formOf}
 use Rattle.decode.proofs.DecodeLaws as forms
 use Rattle.decode.proofs.FormLaws.{Legal, opcode-legal, decode-legal}
 use Rattle.machine.specs.declared.Instruction.{Instruction}
@@ -36,7 +36,7 @@ decode-small w = small (decodeOf w) (decode-legal w)
 
 -- the numbers with paragraph 0, and what the bits x and y after the opcode choose under each
 unfoldable pub extended : ℕ → ℕ → List (ℕ × ℕ)
-extended x y = (0x05001300, numberOf (lookup 0x40 x 0)) ∷ (0x05002900, numberOf (lookup 0x4A 0 y)) ∷ (0x05001000, numberOf (lookup 0xFF x y)) ∷ []
+extended x y = (0x05001300, numberOf (formClaimed 0x40 x 0)) ∷ (0x05002900, numberOf (formClaimed 0x4A 0 y)) ∷ (0x05001000, numberOf (formClaimed 0xFF x y)) ∷ []
 
 -- the number of a first word by the number of its opcode
 abbrev pub resolved : ℕ → ℕ → ℕ → ℕ
@@ -69,8 +69,8 @@ module _ (form : ℕ) (h : form < 65536) where
   unfolding forms.extended extended numberOf ruleOf countsOf needOf exceptions wayOf wordsRead wordsMoved wordsOfFloat wordsOfInteger wordsWritten inMemory
   numbered x y =
       rw (key 0x1300 0x05001300 (omega arith) refl, key 0x2900 0x05002900 (omega arith) refl, key 0x1000 0x05001000 (omega arith) refl)
-      (chosen (eqb (numberOf form) 0x05001300) _ _ ∙ ap (cond (eqb (numberOf form) 0x05001300) (numberOf (lookup 0x40 x 0)))
-      (chosen (eqb (numberOf form) 0x05002900) _ _ ∙ ap (cond (eqb (numberOf form) 0x05002900) (numberOf (lookup 0x4A 0 y))) (chosen (eqb (numberOf form) 0x05001000) _ _)))
+      (chosen (eqb (numberOf form) 0x05001300) _ _ ∙ ap (cond (eqb (numberOf form) 0x05001300) (numberOf (formClaimed 0x40 x 0)))
+      (chosen (eqb (numberOf form) 0x05002900) _ _ ∙ ap (cond (eqb (numberOf form) 0x05002900) (numberOf (formClaimed 0x4A 0 y))) (chosen (eqb (numberOf form) 0x05001000) _ _)))
 
 -- a list that is the table gives the number of every first word
 pub decoded : (table : List ℕ) (w : ℕ) → table ≡ numbers → w < 65536 → numberOf (decodeOf w) ≡ resolved (getD table (w / 256) 0) (w / 16 % 16) (w % 16)

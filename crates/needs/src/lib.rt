@@ -3,7 +3,7 @@ ghost use mathlib.Core.Path.{_≡_};
 ghost use mathlib.Core.List.{List};
 ghost use Prim.Native.Nat.{ℕ, _≤_, _<_, _/_, _%_};
 ghost use Rattle.decode.specs.Forms.{operationOf};
-ghost use Rattle.decode.specs.Decode.{lookup, decodeOf};
+ghost use Rattle.decode.specs.Decode.{formClaimed, decodeOf};
 ghost use Rattle.isa.specs.Accesses.{readsOf, writesOf};
 ghost use Rattle.needs.specs.Needs.{needOf, numberOf, numbers};
 
@@ -24,7 +24,7 @@ pub fn table() -> [u32; 256]
 // The form number under opcodes 40 to 43, by bits 8 to 11: four bits, so that every caller has a number below 16.
 fn indexed(upper: usize) -> u32
     requires { ⌜ upper < 16 ⌝ }
-    ensures { λ r. ⌜ r ≡ numberOf (lookup 0x40 upper 0) ⌝ }
+    ensures { λ r. ⌜ r ≡ numberOf (formClaimed 0x40 upper 0) ⌝ }
 {
     numbers::INDEXED[upper]
 }
@@ -32,14 +32,14 @@ fn indexed(upper: usize) -> u32
 // The form number under opcode 4A, by bits 12 to 15, likewise below 16.
 fn immediate(lower: usize) -> u32
     requires { ⌜ lower < 16 ⌝ }
-    ensures { λ r. ⌜ r ≡ numberOf (lookup 0x4A 0 lower) ⌝ }
+    ensures { λ r. ⌜ r ≡ numberOf (formClaimed 0x4A 0 lower) ⌝ }
 {
     numbers::IMMEDIATE[lower]
 }
 
 // The form number under opcode FF, by the whole first word.
 fn special(first: u16) -> u32
-    ensures { λ r. ⌜ r ≡ numberOf (lookup 0xFF (first / 16 % 16) (first % 16)) ⌝ }
+    ensures { λ r. ⌜ r ≡ numberOf (formClaimed 0xFF (first / 16 % 16) (first % 16)) ⌝ }
 {
     match first % 256 {
         0x00 => numbers::NOP,

@@ -90,9 +90,8 @@ fn derive(
     ensures { λ r. ⌜ r ≡ derived mil1750 (joined core (now (regs .entry)))
         (view (joined core (now (regs .entry))) (now (memory .entry)) (now (pages .entry))) form w x (eqb (modeOf form) 7) ⌝ }
 {
-    let number = form / 256 % 16;
-    let a = access::addressing::derive(number, regs, core.ic, w, x);
-    if number == mode::I {
+    let a = access::addressing::derive(form, regs, core.ic, w, x);
+    if form / 256 % 16 == mode::I {
         let got = read_word(Access::Read, key, group, memory, pages, a);
         return redirect(core, form, w, x, got);
     }

@@ -1,4 +1,4 @@
--- Written by tools/prove.py from answers/instruct.py: answer d2e0092293fc, proof b6bb95cac7d5.
+-- Written by tools/prove.py from answers/instruct.py: answer 4a4fae1c2b3c, proof a55deeac326d.
 -- `instruct::carry_direct` meets its contract. Assumes nothing.
 use Rattle.clock.specs.Later.{later}
 use Rattle.instruct.proofs.UserLaws.{became-worked, settled-by}
@@ -20,7 +20,7 @@ returns c = (λ lag ports. rw (← carried-clear (later lag (joined (c .before .
 
 returns-2 : tie.Need-returns-2
 unfolding operated mil1750 contextOf
-returns-2 c = let k = c .before .before .before .before .before .before .direct .ensures .when-refused (c .before .before .before .if1 .left) in (λ lag ports. rw (c .deny .ensures .0, ← carried-fault (later lag (joined (c .before .before .before .before .before .before .before .before .before .before .before .args .core) (c .before .before .before .before .before .before .before .before .before .before .before .args .regs .now))) (c .before .before .before .before .before .before .before .before .before .before .before .args .memory .now) (c .before .before .before .before .before .before .before .before .before .before .before .args .pages .now) ports (c .before .before .before .before .before .before .before .before .before .before .before .args .n) _ _ _ refl refl refl _ (k .0), ← c .before .advance .ensures) (failed (later lag (joined (c .before .before .before .before .before .before .before .before .before .before .before .args .core) (c .before .before .before .before .before .before .before .before .before .before .before .args .regs .now))) _ (c .before .before .before .before .before .before .before .before .before .before .before .args .memory .now) _ (c .before .before .before .before .before .before .before .before .before .before .before .args .pages .now) ports _ _ (k .2) (ap (λ r. later lag (joined (c .deny .result .core) r)) (k .1) ∙ c .deny .ensures .1 lag (c .before .before .before .before .before .before .before .before .before .before .before .args .regs .now))), c .deny .ensures .2)
+returns-2 c = let k = c .before .before .before .before .before .before .direct .ensures .when-refused (c .before .before .before .if1 .left) in (λ lag ports. rw (c .deny .ensures .0, ← carried-fault (later lag (joined (c .before .before .before .before .before .before .before .before .before .before .before .args .core) (c .before .before .before .before .before .before .before .before .before .before .before .args .regs .now))) (c .before .before .before .before .before .before .before .before .before .before .before .args .memory .now) (c .before .before .before .before .before .before .before .before .before .before .before .args .pages .now) ports (c .before .before .before .before .before .before .before .before .before .before .before .args .n) _ _ _ refl refl refl _ (k .0), ← c .before .advance .ensures) (failed (later lag (joined (c .before .before .before .before .before .before .before .before .before .before .before .args .core) (c .before .before .before .before .before .before .before .before .before .before .before .args .regs .now))) _ (c .before .before .before .before .before .before .before .before .before .before .before .args .memory .now) _ (c .before .before .before .before .before .before .before .before .before .before .before .args .pages .now) ports _ _ (k .2) (ap (λ r. later lag (joined (c .deny .result .core) (r .regs))) (k .1) ∙ c .deny .ensures .1 lag (c .before .before .before .before .before .before .before .before .before .before .before .args .regs .now))), c .deny .ensures .2)
 
 pub carry-direct-spec : {M : Type 1} → statement M
 carry-direct-spec =

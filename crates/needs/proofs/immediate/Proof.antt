@@ -1,8 +1,8 @@
--- Written by tools/prove.py from answers/needs.py: answer 5103bd224f56, proof 859e2bf3379b.
+-- Written by tools/prove.py from answers/needs.py: answer aea7990342e2, proof 292a220d0677.
 -- `needs::immediate` meets its contract. Assumes nothing.
 use Prim.Native.Nat.{ℕ}
 use Rattle.choice.proofs.TableLaws.{tabled}
-use Rattle.decode.specs.Decode.{lookup}
+use Rattle.decode.specs.Decode.{formClaimed}
 use Rattle.decode.specs.Pages.{pages}
 use Rattle.isa.specs.Accesses.{wordsMoved, wordsOfInteger, wordsOfFloat, wordsRead, wordsWritten}
 use Rattle.isa.specs.Addressing.{inMemory}
@@ -16,7 +16,7 @@ array-read-result c = search needs
 
 returns : tie.Need-returns
 unfolding pages numberOf ruleOf countsOf needOf exceptions wayOf wordsRead wordsMoved wordsOfFloat wordsOfInteger wordsWritten inMemory
-returns c = tabled (λ (k : ℕ). numberOf (lookup 0x4A 0 k)) 16 (c .args .lower) (array-read-result c)
+returns c = tabled (λ (k : ℕ). numberOf (formClaimed 0x4A 0 k)) 16 (c .args .lower) (array-read-result c)
 
 pub immediate-spec : {M : Type 1} → statement M
 immediate-spec = tie.close (tie.spec (λ c. search needs) array-read-result returns)

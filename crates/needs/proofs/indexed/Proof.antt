@@ -1,8 +1,8 @@
--- Written by tools/prove.py from answers/needs.py: answer 270f14ef4057, proof f30bcec1027e.
+-- Written by tools/prove.py from answers/needs.py: answer 2885bcaa4778, proof e638b1d098c1.
 -- `needs::indexed` meets its contract. Assumes nothing.
 use Prim.Native.Nat.{ℕ}
 use Rattle.choice.proofs.TableLaws.{tabled}
-use Rattle.decode.specs.Decode.{lookup}
+use Rattle.decode.specs.Decode.{formClaimed}
 use Rattle.decode.specs.Pages.{pages}
 use Rattle.isa.specs.Accesses.{wordsMoved, wordsOfInteger, wordsOfFloat, wordsRead, wordsWritten}
 use Rattle.isa.specs.Addressing.{inMemory}
@@ -16,7 +16,7 @@ array-read-result c = search needs
 
 returns : tie.Need-returns
 unfolding pages numberOf ruleOf countsOf needOf exceptions wayOf wordsRead wordsMoved wordsOfFloat wordsOfInteger wordsWritten inMemory
-returns c = tabled (λ (k : ℕ). numberOf (lookup 0x40 k 0)) 16 (c .args .upper) (array-read-result c)
+returns c = tabled (λ (k : ℕ). numberOf (formClaimed 0x40 k 0)) 16 (c .args .upper) (array-read-result c)
 
 pub indexed-spec : {M : Type 1} → statement M
 indexed-spec = tie.close (tie.spec (λ c. search needs) array-read-result returns)

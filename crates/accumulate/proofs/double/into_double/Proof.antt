@@ -1,4 +1,4 @@
--- Written by tools/prove.py from answers/accumulate.py: answer 82fe20a2ebd5, proof fcc341f60ea6.
+-- Written by tools/prove.py from answers/accumulate.py: answer 72003c267a5d, proof c42d03dbdcc6.
 -- `accumulate::double::into_double` meets its contract. Assumes nothing.
 use Prim.Native.Nat.{_+_}
 use Rattle.accumulate.proofs.EndLaws.{words-first, read-done, read-refused, double-after}
@@ -28,7 +28,7 @@ returns c = let o : c .before .before .before .before .before .before .before .b
 
 returns-2 : tie.Need-returns-2
 unfolding atOperand contextOf double registerPair
-returns-2 c = read-refused (joined (c .before .before .before .before .before .args .core) (c .before .before .before .before .before .args .regs .now)) (c .before .before .before .before .before .args .memory .now) (c .before .before .before .before .before .args .pages .now) (c .before .before .before .before .before .args .n) (way-user (c .before .before .before .before .before .args .n) 2 (c .before .before .before .before .before .pre .4) (omega arith)) _ _ 2 (c .before .before .before .before .before .pre .1) (c .before .before .before .before .before .pre .2) (way-reads (c .before .before .before .before .before .args .n) 2 2 0 (c .before .before .before .before .before .pre .4) (omega arith) refl refl refl refl refl (c .before .before .before .before .before .args .regs .now)) (way-writes (c .before .before .before .before .before .args .n) 2 2 0 (c .before .before .before .before .before .pre .4) (omega arith) refl refl refl refl refl (c .before .before .before .before .before .args .regs .now)) _ (c .before .before .read-operand .ensures 2 (way-count (c .before .before .before .before .before .args .n) 2 (c .before .before .before .before .before .pre .4) (omega arith) 2 refl)) _ _ _ (c .before .if1 .left) (c .refused .ensures .0) (c .refused .ensures .1) refl
+returns-2 c = read-refused (joined (c .before .before .before .before .before .args .core) (c .before .before .before .before .before .args .regs .now)) (c .before .before .before .before .before .args .memory .now) (c .before .before .before .before .before .args .pages .now) (c .before .before .before .before .before .args .n) (way-user (c .before .before .before .before .before .args .n) 2 (c .before .before .before .before .before .pre .4) (omega arith)) _ _ 2 (c .before .before .before .before .before .pre .1) (c .before .before .before .before .before .pre .2) (way-reads (c .before .before .before .before .before .args .n) 2 2 0 (c .before .before .before .before .before .pre .4) (omega arith) refl refl refl refl refl (c .before .before .before .before .before .args .regs .now)) (way-writes (c .before .before .before .before .before .args .n) 2 2 0 (c .before .before .before .before .before .pre .4) (omega arith) refl refl refl refl refl (c .before .before .before .before .before .args .regs .now)) _ (c .before .before .read-operand .ensures 2 (way-count (c .before .before .before .before .before .args .n) 2 (c .before .before .before .before .before .pre .4) (omega arith) 2 refl)) _ _ _ (c .before .if1 .left) (c .refused .ensures .0) (c .refused .ensures .1) (ap (λ k. joined k (c .before .before .before .before .before .args .regs .now)) (c .refused .ensures .2))
 
 pub into-double-spec : {M : Type 1} → statement M
 into-double-spec =

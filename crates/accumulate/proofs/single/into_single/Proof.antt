@@ -1,4 +1,4 @@
--- Written by tools/prove.py from answers/accumulate.py: answer 6ed6a70eb1f2, proof 6e1f1c5bf949.
+-- Written by tools/prove.py from answers/accumulate.py: answer 415b4fd6f491, proof e765be6e4e49.
 -- `accumulate::single::into_single` meets its contract. Assumes nothing.
 use Rattle.accumulate.proofs.EndLaws.{words-first, read-done, read-refused, single-after}
 use Rattle.accumulate.proofs.WayLaws.{way-user, way-reads, way-writes, way-count, singled, does-single}
@@ -25,7 +25,7 @@ returns c = let o : c .before .before .before .before .before .combine16 .result
 
 returns-2 : tie.Need-returns-2
 unfolding atOperand contextOf single
-returns-2 c = read-refused (joined (c .before .before .before .before .before .args .core) (c .before .before .before .before .before .args .regs .now)) (c .before .before .before .before .before .args .memory .now) (c .before .before .before .before .before .args .pages .now) (c .before .before .before .before .before .args .n) (way-user (c .before .before .before .before .before .args .n) 1 (c .before .before .before .before .before .pre .4) (omega arith)) _ _ 1 (c .before .before .before .before .before .pre .1) (c .before .before .before .before .before .pre .2) (way-reads (c .before .before .before .before .before .args .n) 1 1 0 (c .before .before .before .before .before .pre .4) (omega arith) refl refl refl refl refl (c .before .before .before .before .before .args .regs .now)) (way-writes (c .before .before .before .before .before .args .n) 1 1 0 (c .before .before .before .before .before .pre .4) (omega arith) refl refl refl refl refl (c .before .before .before .before .before .args .regs .now)) _ (c .before .before .read-operand .ensures 1 (way-count (c .before .before .before .before .before .args .n) 1 (c .before .before .before .before .before .pre .4) (omega arith) 1 refl)) _ _ _ (c .before .if1 .left) (c .refused .ensures .0) (c .refused .ensures .1) refl
+returns-2 c = read-refused (joined (c .before .before .before .before .before .args .core) (c .before .before .before .before .before .args .regs .now)) (c .before .before .before .before .before .args .memory .now) (c .before .before .before .before .before .args .pages .now) (c .before .before .before .before .before .args .n) (way-user (c .before .before .before .before .before .args .n) 1 (c .before .before .before .before .before .pre .4) (omega arith)) _ _ 1 (c .before .before .before .before .before .pre .1) (c .before .before .before .before .before .pre .2) (way-reads (c .before .before .before .before .before .args .n) 1 1 0 (c .before .before .before .before .before .pre .4) (omega arith) refl refl refl refl refl (c .before .before .before .before .before .args .regs .now)) (way-writes (c .before .before .before .before .before .args .n) 1 1 0 (c .before .before .before .before .before .pre .4) (omega arith) refl refl refl refl refl (c .before .before .before .before .before .args .regs .now)) _ (c .before .before .read-operand .ensures 1 (way-count (c .before .before .before .before .before .args .n) 1 (c .before .before .before .before .before .pre .4) (omega arith) 1 refl)) _ _ _ (c .before .if1 .left) (c .refused .ensures .0) (c .refused .ensures .1) (ap (λ k. joined k (c .before .before .before .before .before .args .regs .now)) (c .refused .ensures .2))
 
 pub into-single-spec : {M : Type 1} → statement M
 into-single-spec =

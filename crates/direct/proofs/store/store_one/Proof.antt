@@ -1,4 +1,4 @@
--- Written by tools/prove.py from answers/direct.py: answer 89b2f39286fc, proof adcaffade8a1.
+-- Written by tools/prove.py from answers/direct.py: answer 030536237c3c, proof 4779a5fce655.
 -- `direct::store::store_one` meets its contract. Assumes nothing.
 use Rattle.accumulate.proofs.EndLaws.{store-done, store-refused, idle-done}
 use Rattle.accumulate.proofs.WayLaws.{way-user, way-reads, way-writes, way-stored, way-store, some-words, no-words, does-store}
@@ -33,7 +33,7 @@ returns c = store-done (joined (c .before .before .before .before .before .befor
 
 returns-2 : tie.Need-returns-2
 unfolding contextOf effect stored following withRegisters
-returns-2 c = store-refused (joined (c .before .before .before .before .before .before .before .before .before .before .before .before .args .core) (c .before .before .before .before .before .before .before .before .before .before .before .before .args .regs .now)) (c .before .before .before .before .before .before .before .before .before .before .before .before .args .memory .now) (c .before .before .before .before .before .before .before .before .before .before .before .before .args .pages .now) (c .before .before .before .before .before .before .before .before .before .before .before .before .args .n) (way-user (c .before .before .before .before .before .before .before .before .before .before .before .before .args .n) 3 (c .before .before .before .before .before .before .before .before .before .before .before .before .pre .4) (omega arith)) (way-reads (c .before .before .before .before .before .before .before .before .before .before .before .before .args .n) 3 0 1 (c .before .before .before .before .before .before .before .before .before .before .before .before .pre .4) (omega arith) refl refl refl refl refl (c .before .before .before .before .before .before .before .before .before .before .before .before .args .regs .now)) _ _ (c .before .before .before .before .before .before .before .before .before .before .before .before .pre .1) (c .before .before .before .before .before .before .before .before .before .before .before .before .pre .2) ((way-writes (c .before .before .before .before .before .before .before .before .before .before .before .before .args .n) 3 0 1 (c .before .before .before .before .before .before .before .before .before .before .before .before .pre .4) (omega arith) refl refl refl refl refl (c .before .before .before .before .before .before .before .before .before .before .before .before .args .regs .now)) ∙ ap (λ b. spanFrom (c .before .before .before .before .before .before .before .before .before .before .before .before .args .n .address) (cond b 1 0)) (some-words (inMemory (modeOf (c .before .before .before .before .before .before .before .before .before .before .before .before .args .n .form))) 0 _ (way-stored (c .before .before .before .before .before .before .before .before .before .before .before .before .args .n) (omega (arith, (c .before .before .before .before .before .before .before .before .before .before .before .before .pre .4))) _ (c .before .before .before .before .before .before .before .write-count .ensures .0) 1 (way-store (c .before .before .before .before .before .before .before .before .before .before .before .before .args .n) 3 (c .before .before .before .before .before .before .before .before .before .before .before .before .pre .4) (omega arith) 1 refl)) (c .before .before .before .before .before .before .if1 .taken))) _ (c .before .before .before .before .look-up .ensures) _ _ _ _ (c .before .before .place2 .given .1) (c .refused .ensures .0) (c .refused .ensures .1) refl
+returns-2 c = store-refused (joined (c .before .before .before .before .before .before .before .before .before .before .before .before .args .core) (c .before .before .before .before .before .before .before .before .before .before .before .before .args .regs .now)) (c .before .before .before .before .before .before .before .before .before .before .before .before .args .memory .now) (c .before .before .before .before .before .before .before .before .before .before .before .before .args .pages .now) (c .before .before .before .before .before .before .before .before .before .before .before .before .args .n) (way-user (c .before .before .before .before .before .before .before .before .before .before .before .before .args .n) 3 (c .before .before .before .before .before .before .before .before .before .before .before .before .pre .4) (omega arith)) (way-reads (c .before .before .before .before .before .before .before .before .before .before .before .before .args .n) 3 0 1 (c .before .before .before .before .before .before .before .before .before .before .before .before .pre .4) (omega arith) refl refl refl refl refl (c .before .before .before .before .before .before .before .before .before .before .before .before .args .regs .now)) _ _ (c .before .before .before .before .before .before .before .before .before .before .before .before .pre .1) (c .before .before .before .before .before .before .before .before .before .before .before .before .pre .2) ((way-writes (c .before .before .before .before .before .before .before .before .before .before .before .before .args .n) 3 0 1 (c .before .before .before .before .before .before .before .before .before .before .before .before .pre .4) (omega arith) refl refl refl refl refl (c .before .before .before .before .before .before .before .before .before .before .before .before .args .regs .now)) ∙ ap (λ b. spanFrom (c .before .before .before .before .before .before .before .before .before .before .before .before .args .n .address) (cond b 1 0)) (some-words (inMemory (modeOf (c .before .before .before .before .before .before .before .before .before .before .before .before .args .n .form))) 0 _ (way-stored (c .before .before .before .before .before .before .before .before .before .before .before .before .args .n) (omega (arith, (c .before .before .before .before .before .before .before .before .before .before .before .before .pre .4))) _ (c .before .before .before .before .before .before .before .write-count .ensures .0) 1 (way-store (c .before .before .before .before .before .before .before .before .before .before .before .before .args .n) 3 (c .before .before .before .before .before .before .before .before .before .before .before .before .pre .4) (omega arith) 1 refl)) (c .before .before .before .before .before .before .if1 .taken))) _ (c .before .before .before .before .look-up .ensures) _ _ _ _ (c .before .before .place2 .given .1) (c .refused .ensures .0) (c .refused .ensures .1) (ap (λ k. joined k (c .before .before .before .before .before .before .before .before .before .before .before .before .args .regs .now)) (c .refused .ensures .2))
 
 returns-3 : tie.Need-returns-3
 unfolding contextOf effect stored following withRegisters

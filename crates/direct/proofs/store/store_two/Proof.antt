@@ -1,4 +1,4 @@
--- Written by tools/prove.py from answers/direct.py: answer c4b436fe36f1, proof 6c8ce4d57e2a.
+-- Written by tools/prove.py from answers/direct.py: answer 921494fcb0db, proof 25cafa623a3e.
 -- `direct::store::store_two` meets its contract. Assumes nothing.
 use Prim.Native.Nat.{_+_}
 use Rattle.accumulate.proofs.EndLaws.{pair-done, pair-refused, idle-done}
@@ -35,11 +35,11 @@ returns-2 c = rw (c .before .before .before .put-two .ensures) (pair-done (joine
 
 returns-3 : tie.Need-returns-3
 unfolding contextOf effect stored following withRegisters wrapped andThen
-returns-3 c = pair-refused (joined (c .before .before .before .before .before .before .before .before .before .before .before .before .before .before .before .before .before .before .before .before .args .core) (c .before .before .before .before .before .before .before .before .before .before .before .before .before .before .before .before .before .before .before .before .args .regs .now)) (c .before .before .before .before .before .before .before .before .before .before .before .before .before .before .before .before .before .before .before .before .args .memory .now) (c .before .before .before .before .before .before .before .before .before .before .before .before .before .before .before .before .before .before .before .before .args .pages .now) (c .before .before .before .before .before .before .before .before .before .before .before .before .before .before .before .before .before .before .before .before .args .n) (way-user (c .before .before .before .before .before .before .before .before .before .before .before .before .before .before .before .before .before .before .before .before .args .n) 5 (c .before .before .before .before .before .before .before .before .before .before .before .before .before .before .before .before .before .before .before .before .pre .4) (omega arith)) (way-reads (c .before .before .before .before .before .before .before .before .before .before .before .before .before .before .before .before .before .before .before .before .args .n) 5 0 2 (c .before .before .before .before .before .before .before .before .before .before .before .before .before .before .before .before .before .before .before .before .pre .4) (omega arith) refl refl refl refl refl (c .before .before .before .before .before .before .before .before .before .before .before .before .before .before .before .before .before .before .before .before .args .regs .now)) _ _ (c .before .before .before .before .before .before .before .before .before .before .before .before .before .before .before .before .before .before .before .before .pre .1) (c .before .before .before .before .before .before .before .before .before .before .before .before .before .before .before .before .before .before .before .before .pre .2) ((way-writes (c .before .before .before .before .before .before .before .before .before .before .before .before .before .before .before .before .before .before .before .before .args .n) 5 0 2 (c .before .before .before .before .before .before .before .before .before .before .before .before .before .before .before .before .before .before .before .before .pre .4) (omega arith) refl refl refl refl refl (c .before .before .before .before .before .before .before .before .before .before .before .before .before .before .before .before .before .before .before .before .args .regs .now)) ∙ ap (λ b. spanFrom (c .before .before .before .before .before .before .before .before .before .before .before .before .before .before .before .before .before .before .before .before .args .n .address) (cond b 2 0)) (some-words (inMemory (modeOf (c .before .before .before .before .before .before .before .before .before .before .before .before .before .before .before .before .before .before .before .before .args .n .form))) 1 _ (way-stored (c .before .before .before .before .before .before .before .before .before .before .before .before .before .before .before .before .before .before .before .before .args .n) (omega (arith, (c .before .before .before .before .before .before .before .before .before .before .before .before .before .before .before .before .before .before .before .before .pre .4))) _ (c .before .before .before .before .before .before .before .before .before .before .before .before .before .before .before .write-count .ensures .0) 2 (way-store (c .before .before .before .before .before .before .before .before .before .before .before .before .before .before .before .before .before .before .before .before .args .n) 5 (c .before .before .before .before .before .before .before .before .before .before .before .before .before .before .before .before .before .before .before .before .pre .4) (omega arith) 2 refl)) (omega (arith, c .before .before .before .before .before .before .before .before .before .before .before .before .before .before .if1 .left)))) _ _ _ _ (rw (← c .before .before .before .before .before .before .before .before .before .look-up .ensures, c .before .before .before .before .before .before .before .first .given .1, ← c .before .before .before .before .before .wrapping-add-u16 .ensures, ← c .before .before .before .before .look-up2 .ensures, c .before .before .second2 .given .1) refl) (c .refused .ensures .0) (c .refused .ensures .1) refl
+returns-3 c = pair-refused (joined (c .before .before .before .before .before .before .before .before .before .before .before .before .before .before .before .before .before .before .before .before .args .core) (c .before .before .before .before .before .before .before .before .before .before .before .before .before .before .before .before .before .before .before .before .args .regs .now)) (c .before .before .before .before .before .before .before .before .before .before .before .before .before .before .before .before .before .before .before .before .args .memory .now) (c .before .before .before .before .before .before .before .before .before .before .before .before .before .before .before .before .before .before .before .before .args .pages .now) (c .before .before .before .before .before .before .before .before .before .before .before .before .before .before .before .before .before .before .before .before .args .n) (way-user (c .before .before .before .before .before .before .before .before .before .before .before .before .before .before .before .before .before .before .before .before .args .n) 5 (c .before .before .before .before .before .before .before .before .before .before .before .before .before .before .before .before .before .before .before .before .pre .4) (omega arith)) (way-reads (c .before .before .before .before .before .before .before .before .before .before .before .before .before .before .before .before .before .before .before .before .args .n) 5 0 2 (c .before .before .before .before .before .before .before .before .before .before .before .before .before .before .before .before .before .before .before .before .pre .4) (omega arith) refl refl refl refl refl (c .before .before .before .before .before .before .before .before .before .before .before .before .before .before .before .before .before .before .before .before .args .regs .now)) _ _ (c .before .before .before .before .before .before .before .before .before .before .before .before .before .before .before .before .before .before .before .before .pre .1) (c .before .before .before .before .before .before .before .before .before .before .before .before .before .before .before .before .before .before .before .before .pre .2) ((way-writes (c .before .before .before .before .before .before .before .before .before .before .before .before .before .before .before .before .before .before .before .before .args .n) 5 0 2 (c .before .before .before .before .before .before .before .before .before .before .before .before .before .before .before .before .before .before .before .before .pre .4) (omega arith) refl refl refl refl refl (c .before .before .before .before .before .before .before .before .before .before .before .before .before .before .before .before .before .before .before .before .args .regs .now)) ∙ ap (λ b. spanFrom (c .before .before .before .before .before .before .before .before .before .before .before .before .before .before .before .before .before .before .before .before .args .n .address) (cond b 2 0)) (some-words (inMemory (modeOf (c .before .before .before .before .before .before .before .before .before .before .before .before .before .before .before .before .before .before .before .before .args .n .form))) 1 _ (way-stored (c .before .before .before .before .before .before .before .before .before .before .before .before .before .before .before .before .before .before .before .before .args .n) (omega (arith, (c .before .before .before .before .before .before .before .before .before .before .before .before .before .before .before .before .before .before .before .before .pre .4))) _ (c .before .before .before .before .before .before .before .before .before .before .before .before .before .before .before .write-count .ensures .0) 2 (way-store (c .before .before .before .before .before .before .before .before .before .before .before .before .before .before .before .before .before .before .before .before .args .n) 5 (c .before .before .before .before .before .before .before .before .before .before .before .before .before .before .before .before .before .before .before .before .pre .4) (omega arith) 2 refl)) (omega (arith, c .before .before .before .before .before .before .before .before .before .before .before .before .before .before .if1 .left)))) _ _ _ _ (rw (← c .before .before .before .before .before .before .before .before .before .look-up .ensures, c .before .before .before .before .before .before .before .first .given .1, ← c .before .before .before .before .before .wrapping-add-u16 .ensures, ← c .before .before .before .before .look-up2 .ensures, c .before .before .second2 .given .1) refl) (c .refused .ensures .0) (c .refused .ensures .1) (ap (λ k. joined k (c .before .before .before .before .before .before .before .before .before .before .before .before .before .before .before .before .before .before .before .before .args .regs .now)) (c .refused .ensures .2))
 
 returns-4 : tie.Need-returns-4
 unfolding contextOf effect stored following withRegisters wrapped andThen
-returns-4 c = pair-refused (joined (c .before .before .before .before .before .before .before .before .before .before .before .before .before .before .before .args .core) (c .before .before .before .before .before .before .before .before .before .before .before .before .before .before .before .args .regs .now)) (c .before .before .before .before .before .before .before .before .before .before .before .before .before .before .before .args .memory .now) (c .before .before .before .before .before .before .before .before .before .before .before .before .before .before .before .args .pages .now) (c .before .before .before .before .before .before .before .before .before .before .before .before .before .before .before .args .n) (way-user (c .before .before .before .before .before .before .before .before .before .before .before .before .before .before .before .args .n) 5 (c .before .before .before .before .before .before .before .before .before .before .before .before .before .before .before .pre .4) (omega arith)) (way-reads (c .before .before .before .before .before .before .before .before .before .before .before .before .before .before .before .args .n) 5 0 2 (c .before .before .before .before .before .before .before .before .before .before .before .before .before .before .before .pre .4) (omega arith) refl refl refl refl refl (c .before .before .before .before .before .before .before .before .before .before .before .before .before .before .before .args .regs .now)) _ _ (c .before .before .before .before .before .before .before .before .before .before .before .before .before .before .before .pre .1) (c .before .before .before .before .before .before .before .before .before .before .before .before .before .before .before .pre .2) ((way-writes (c .before .before .before .before .before .before .before .before .before .before .before .before .before .before .before .args .n) 5 0 2 (c .before .before .before .before .before .before .before .before .before .before .before .before .before .before .before .pre .4) (omega arith) refl refl refl refl refl (c .before .before .before .before .before .before .before .before .before .before .before .before .before .before .before .args .regs .now)) ∙ ap (λ b. spanFrom (c .before .before .before .before .before .before .before .before .before .before .before .before .before .before .before .args .n .address) (cond b 2 0)) (some-words (inMemory (modeOf (c .before .before .before .before .before .before .before .before .before .before .before .before .before .before .before .args .n .form))) 1 _ (way-stored (c .before .before .before .before .before .before .before .before .before .before .before .before .before .before .before .args .n) (omega (arith, (c .before .before .before .before .before .before .before .before .before .before .before .before .before .before .before .pre .4))) _ (c .before .before .before .before .before .before .before .before .before .before .write-count .ensures .0) 2 (way-store (c .before .before .before .before .before .before .before .before .before .before .before .before .before .before .before .args .n) 5 (c .before .before .before .before .before .before .before .before .before .before .before .before .before .before .before .pre .4) (omega arith) 2 refl)) (omega (arith, c .before .before .before .before .before .before .before .before .before .if1 .left)))) _ _ _ _ (rw (← c .before .before .before .before .look-up .ensures, c .before .before .first2 .given .1) refl) (c .refused2 .ensures .0) (c .refused2 .ensures .1) refl
+returns-4 c = pair-refused (joined (c .before .before .before .before .before .before .before .before .before .before .before .before .before .before .before .args .core) (c .before .before .before .before .before .before .before .before .before .before .before .before .before .before .before .args .regs .now)) (c .before .before .before .before .before .before .before .before .before .before .before .before .before .before .before .args .memory .now) (c .before .before .before .before .before .before .before .before .before .before .before .before .before .before .before .args .pages .now) (c .before .before .before .before .before .before .before .before .before .before .before .before .before .before .before .args .n) (way-user (c .before .before .before .before .before .before .before .before .before .before .before .before .before .before .before .args .n) 5 (c .before .before .before .before .before .before .before .before .before .before .before .before .before .before .before .pre .4) (omega arith)) (way-reads (c .before .before .before .before .before .before .before .before .before .before .before .before .before .before .before .args .n) 5 0 2 (c .before .before .before .before .before .before .before .before .before .before .before .before .before .before .before .pre .4) (omega arith) refl refl refl refl refl (c .before .before .before .before .before .before .before .before .before .before .before .before .before .before .before .args .regs .now)) _ _ (c .before .before .before .before .before .before .before .before .before .before .before .before .before .before .before .pre .1) (c .before .before .before .before .before .before .before .before .before .before .before .before .before .before .before .pre .2) ((way-writes (c .before .before .before .before .before .before .before .before .before .before .before .before .before .before .before .args .n) 5 0 2 (c .before .before .before .before .before .before .before .before .before .before .before .before .before .before .before .pre .4) (omega arith) refl refl refl refl refl (c .before .before .before .before .before .before .before .before .before .before .before .before .before .before .before .args .regs .now)) ∙ ap (λ b. spanFrom (c .before .before .before .before .before .before .before .before .before .before .before .before .before .before .before .args .n .address) (cond b 2 0)) (some-words (inMemory (modeOf (c .before .before .before .before .before .before .before .before .before .before .before .before .before .before .before .args .n .form))) 1 _ (way-stored (c .before .before .before .before .before .before .before .before .before .before .before .before .before .before .before .args .n) (omega (arith, (c .before .before .before .before .before .before .before .before .before .before .before .before .before .before .before .pre .4))) _ (c .before .before .before .before .before .before .before .before .before .before .write-count .ensures .0) 2 (way-store (c .before .before .before .before .before .before .before .before .before .before .before .before .before .before .before .args .n) 5 (c .before .before .before .before .before .before .before .before .before .before .before .before .before .before .before .pre .4) (omega arith) 2 refl)) (omega (arith, c .before .before .before .before .before .before .before .before .before .if1 .left)))) _ _ _ _ (rw (← c .before .before .before .before .look-up .ensures, c .before .before .first2 .given .1) refl) (c .refused2 .ensures .0) (c .refused2 .ensures .1) (ap (λ k. joined k (c .before .before .before .before .before .before .before .before .before .before .before .before .before .before .before .args .regs .now)) (c .refused2 .ensures .2))
 
 pub store-two-spec : {M : Type 1} → statement M
 store-two-spec =

@@ -2,16 +2,16 @@
 use mathlib.Core.Path.{_∙_, ap}
 use mathlib.Core.Bool.{false}
 use borrow.Author.Needs.{needs}
-use Rattle.fixed.specs.Fixed.{single, result}
+use Rattle.fixed.specs.Fixed.{single, outcomeOf}
 use Rattle.divide.proofs.PartsLaws.{plus, minus}
 use Rattle.divide.proofs.parts.join16.Statement.{statement}
 use Rattle.divide.proofs.parts.join16.Tie as tie
 
 returns : tie.Need-returns
-returns c = rw (c .before .if1 .taken) (c .narrow16 .ensures ∙ ap (λ z. single (result 16 false z)) (minus _ _ (c .before .before .fits .size .fits)))
+returns c = rw (c .before .if1 .taken) (c .narrow16 .ensures ∙ ap (λ z. single (outcomeOf 16 false z)) (minus _ _ (c .before .before .fits .size .fits)))
 
 returns-2 : tie.Need-returns-2
-returns-2 c = rw (c .before .if1 .left) (c .narrow162 .ensures ∙ ap (λ z. single (result 16 false z)) (plus _ _))
+returns-2 c = rw (c .before .if1 .left) (c .narrow162 .ensures ∙ ap (λ z. single (outcomeOf 16 false z)) (plus _ _))
 
 pub join16-spec : {M : Type 1} → statement M
 join16-spec = tie.close (tie.spec (λ c. search needs) (λ c κs. search needs) returns (λ c. search needs) (λ c κs. search needs) returns-2)

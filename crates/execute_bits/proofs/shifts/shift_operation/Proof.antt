@@ -1,4 +1,4 @@
--- Written by tools/prove.py from answers/execute_bits.py: answer 2eb15c7dd76a, proof bb1d67a5c929.
+-- Written by tools/prove.py from answers/execute_bits.py: answer 6aa7abe6a4c7, proof 479d521070a1.
 -- `execute_bits::shifts::shift_operation` meets its contract. Assumes nothing.
 use Prim.Native.Nat.{_%_}
 use Rattle.choice.proofs.SelectLaws.{otherwise}
@@ -27,19 +27,19 @@ returns-4 c = rw (c .before .before .match .keys4, ← c .before .before .before
 
 returns-5 : tie.Need-returns-5
 unfolding shiftOperation
-returns-5 c = rw (c .before .before .before .match .keys5, ← c .before .before .before .before .before .before .before .field-a .ensures .0, ← c .before .before .before .before .before .before .field-b .ensures .0, ← c .before .before .register-pair .ensures, ← c .before .left32 .ensures) (c .double .ensures _ _)
+returns-5 c = rw (c .before .before .before .match .keys5, ← c .before .before .before .before .before .before .before .field-a .ensures .0, ← c .before .before .before .before .before .before .field-b .ensures .0, ← c .before .before .pair-at .ensures, ← c .before .left32 .ensures) (c .double .ensures _ _)
 
 returns-6 : tie.Need-returns-6
 unfolding shiftOperation
-returns-6 c = rw (c .before .before .before .match .keys6, ← c .before .before .before .before .before .before .before .field-a .ensures .0, ← c .before .before .before .before .before .before .field-b .ensures .0, ← c .before .before .register-pair2 .ensures, ← c .before .right32 .ensures) (c .double2 .ensures _ _)
+returns-6 c = rw (c .before .before .before .match .keys6, ← c .before .before .before .before .before .before .before .field-a .ensures .0, ← c .before .before .before .before .before .before .field-b .ensures .0, ← c .before .before .pair-at2 .ensures, ← c .before .right32 .ensures) (c .double2 .ensures _ _)
 
 returns-7 : tie.Need-returns-7
 unfolding shiftOperation
-returns-7 c = rw (c .before .before .before .match .keys7, ← c .before .before .before .before .before .before .before .field-a .ensures .0, ← c .before .before .before .before .before .before .field-b .ensures .0, ← c .before .before .register-pair3 .ensures, ← c .before .arith32 .ensures) (c .double3 .ensures _ _)
+returns-7 c = rw (c .before .before .before .match .keys7, ← c .before .before .before .before .before .before .before .field-a .ensures .0, ← c .before .before .before .before .before .before .field-b .ensures .0, ← c .before .before .pair-at3 .ensures, ← c .before .arith32 .ensures) (c .double3 .ensures _ _)
 
 returns-8 : tie.Need-returns-8
 unfolding shiftOperation
-returns-8 c = rw (c .before .before .before .match .keys8, ← c .before .before .before .before .before .before .before .field-a .ensures .0, ← c .before .before .before .before .before .before .field-b .ensures .0, ← c .before .before .register-pair4 .ensures, ← c .before .cyclic32 .ensures) (c .double4 .ensures _ _)
+returns-8 c = rw (c .before .before .before .match .keys8, ← c .before .before .before .before .before .before .before .field-a .ensures .0, ← c .before .before .before .before .before .before .field-b .ensures .0, ← c .before .before .pair-at4 .ensures, ← c .before .cyclic32 .ensures) (c .double4 .ensures _ _)
 
 returns-9 : tie.Need-returns-9
 unfolding shiftOperation
@@ -55,15 +55,15 @@ returns-11 c = rw (c .before .before .before .match .keys11, ← c .before .befo
 
 returns-12 : tie.Need-returns-12
 unfolding shiftOperation
-returns-12 c = rw (c .before .before .before .match .keys12, ← c .before .before .before .before .before .before .before .field-a .ensures .0, ← c .before .before .before .before .before .before .field-b .ensures .0, ← c .before .before .before .before .before .get .ensures, ← c .before .before .register-pair5 .ensures) (c .shifted-double .ensures _ _ _ (c .before .logical32 .ensures))
+returns-12 c = rw (c .before .before .before .match .keys12, ← c .before .before .before .before .before .before .before .field-a .ensures .0, ← c .before .before .before .before .before .before .field-b .ensures .0, ← c .before .before .before .before .before .get .ensures, ← c .before .before .pair-at5 .ensures) (c .shifted-double .ensures _ _ _ (c .before .logical32 .ensures))
 
 returns-13 : tie.Need-returns-13
 unfolding shiftOperation
-returns-13 c = rw (c .before .before .before .match .keys13, ← c .before .before .before .before .before .before .before .field-a .ensures .0, ← c .before .before .before .before .before .before .field-b .ensures .0, ← c .before .before .before .before .before .get .ensures, ← c .before .before .register-pair6 .ensures) (c .shifted-double2 .ensures _ _ _ (c .before .arithmetic32 .ensures))
+returns-13 c = rw (c .before .before .before .match .keys13, ← c .before .before .before .before .before .before .before .field-a .ensures .0, ← c .before .before .before .before .before .before .field-b .ensures .0, ← c .before .before .before .before .before .get .ensures, ← c .before .before .pair-at6 .ensures) (c .shifted-double2 .ensures _ _ _ (c .before .arithmetic32 .ensures))
 
 returns-14 : tie.Need-returns-14
 unfolding shiftOperation
-returns-14 c = rw (c .before .before .before .match .keys14, ← c .before .before .before .before .before .before .before .field-a .ensures .0, ← c .before .before .before .before .before .before .field-b .ensures .0, ← c .before .before .before .before .before .get .ensures, ← c .before .before .register-pair7 .ensures) (c .shifted-double3 .ensures _ _ _ (c .before .circular32 .ensures))
+returns-14 c = rw (c .before .before .before .match .keys14, ← c .before .before .before .before .before .before .before .field-a .ensures .0, ← c .before .before .before .before .before .before .field-b .ensures .0, ← c .before .before .before .before .before .get .ensures, ← c .before .before .pair-at7 .ensures) (c .shifted-double3 .ensures _ _ _ (c .before .circular32 .ensures))
 
 returns-15 : tie.Need-returns-15
 unfolding shiftOperation

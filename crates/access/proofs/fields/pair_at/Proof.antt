@@ -1,7 +1,7 @@
--- Written by tools/prove.py from answers/execute_integers.py: answer 1ab02f2caa62, proof 3715a8694928.
--- `execute_integers::outcomes::pair_at` meets its contract. Assumes nothing.
-use Rattle.execute_integers.proofs.outcomes.pair_at.Statement.{statement}
-use Rattle.execute_integers.proofs.outcomes.pair_at.Tie as tie
+-- Written by tools/prove.py from answers/access.py: answer 7ed53d8eda52, proof c200cc991faa.
+-- `access::fields::pair_at` meets its contract. Assumes nothing.
+use Rattle.access.proofs.fields.pair_at.Statement.{statement}
+use Rattle.access.proofs.fields.pair_at.Tie as tie
 use Rattle.isa.specs.Words.{registerPair}
 use borrow.Author.Needs.{needs}
 

@@ -1,8 +1,8 @@
--- Written by tools/prove.py from answers/image.py: answer 75d9d5c17ed6, proof 061132a19063.
--- `image::questions::whole_pages` meets its contract. Assumes nothing.
-use Rattle.image.proofs.questions.whole_pages.Statement.{statement}
-use Rattle.image.proofs.questions.whole_pages.Tie as tie
+-- Written by tools/prove.py from answers/machine.py: answer cb75c4e58714, proof 0bb88656e040.
+-- `machine::whole_pages` meets its contract. Assumes nothing.
+use Rattle.machine.proofs.whole_pages.Statement.{statement}
+use Rattle.machine.proofs.whole_pages.Tie as tie
 use Rattle.machine.specs.Runs.{wholePages}
 use borrow.Author.Tests.{eq-eqb, ne-eqb, le-leb, lt-leb}
 use mathlib.Core.Path.{refl}
 
