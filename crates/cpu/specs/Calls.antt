@@ -8,15 +8,15 @@ use lib.ListN.{length, take}
 use Rattle.machine.specs.declared.Answer.{Answer}
 use Rattle.machine.specs.declared.State.{State}
 use Rattle.machine.specs.Machine.{Machine, machine, Became}
-use Rattle.machine.specs.Runs.{answerOf, left, stepsOf, firstEntry, beforeEntry}
+use Rattle.machine.specs.Runs.{Run, answerOf, left, stepsOf, firstEntry, beforeEntry}
 use Rattle.machine.specs.Isolation.{Found}
 use Rattle.isa.specs.Mil1750.{mil1750}
 
 -- ---- calls
 
--- a call: its budget, the answer and the state that it returns, and what it leaves in memory, page registers and ports
+-- a call: its run, the answer and the state that it returns, and what it leaves in memory, page registers and ports
 pub record Call : Type 0 where
-  pub budget : ℕ
+  pub run : Run
   pub answer : Answer
   pub state : State
   pub memory : List ℕ
@@ -25,7 +25,7 @@ pub record Call : Type 0 where
 
 -- what `run` ensures of a call that is given the machine x: the two parts of its contract (`proofs/Isolated: contract`)
 abbrev pub Ensured : Machine → Call → Type 0
-Ensured x c = (c .answer ≡ answerOf x (c .budget)) × Became (left mil1750 x (c .budget)) (c .state) (c .memory) (c .pages) (c .ports)
+Ensured x c = (c .answer ≡ answerOf x (c .run)) × Became (left mil1750 x (c .run)) (c .state) (c .memory) (c .pages) (c .ports)
 
 -- the machine that a call returns and leaves
 abbrev pub resulting : Call → Machine
@@ -36,9 +36,9 @@ abbrev pub EachEnsured : Machine → List Call → Type 0
 EachEnsured x [] = Unit {0}
 EachEnsured x (c ∷ cs) = Ensured x c × EachEnsured (resulting c) cs
 
--- their budgets and their answers
-abbrev pub budgets : List Call → List ℕ
-budgets cs = map (λ c. c .budget) cs
+-- their runs and their answers
+abbrev pub runs : List Call → List Run
+runs cs = map (λ c. c .run) cs
 
 abbrev pub replies : List Call → List Answer
 replies cs = map (λ c. c .answer) cs
@@ -46,7 +46,7 @@ replies cs = map (λ c. c .answer) cs
 -- their steps: the budget of each that was not refused
 abbrev pub stepsMade : List Call → ℕ
 stepsMade [] = 0
-stepsMade (c ∷ cs) = stepsOf (c .answer) (c .budget) + stepsMade cs
+stepsMade (c ∷ cs) = stepsOf (c .answer) (c .run .budget) + stepsMade cs
 
 -- the machine that the last one returned and left
 abbrev pub final : Machine → List Call → Machine
@@ -55,7 +55,7 @@ final x (c ∷ cs) = final (resulting c) cs
 
 -- how many are before the one in which the first entry occurs, all of them where there is none; and these calls
 abbrev pub callsBefore : Machine → List Call → ℕ
-callsBefore x cs = length (beforeEntry mil1750 (budgets cs) x)
+callsBefore x cs = length (beforeEntry mil1750 (runs cs) x)
 
 abbrev pub unentered : Machine → List Call → List Call
 unentered x cs = take (callsBefore x cs) cs
@@ -67,17 +67,17 @@ pub record CallsFound (x y : Machine) (cs ds : List Call) : Type 0 where
   pub answers-same : replies cs ≡ replies ds
   pub found : Found x y (final x cs) (final y ds)
 
--- with the same budgets: field by field `Isolated`, of these calls
+-- with the same list of runs: field by field `Isolated`, of these calls
 pub record CallsIsolated (x y : Machine) (cs ds : List Call) : Type 0 where
   -- the first entry is at the same step of the list in both, or in neither
-  pub entry : firstEntry mil1750 (budgets cs) x ≡ firstEntry mil1750 (budgets ds) y
+  pub entry : firstEntry mil1750 (runs cs) x ≡ firstEntry mil1750 (runs ds) y
   -- where no entry occurs, the findings hold of all the calls
-  pub whole : firstEntry mil1750 (budgets cs) x ≡ none → CallsFound x y cs ds
+  pub whole : firstEntry mil1750 (runs cs) x ≡ none → CallsFound x y cs ds
   -- where one occurs, it does so in the same call of both, and the findings hold of the calls before that one
   pub calls : callsBefore x cs ≡ callsBefore y ds
   pub before : CallsFound x y (unentered x cs) (unentered y ds)
 
 -- with unequal budgets: the same findings, answers aside
 pub record CallsIsolatedApart (x y : Machine) (cs ds : List Call) : Type 0 where
-  pub entry : firstEntry mil1750 (budgets cs) x ≡ firstEntry mil1750 (budgets ds) y
-  pub found : firstEntry mil1750 (budgets cs) x ≡ none → Found x y (final x cs) (final y ds)
+  pub entry : firstEntry mil1750 (runs cs) x ≡ firstEntry mil1750 (runs ds) y
+  pub found : firstEntry mil1750 (runs cs) x ≡ none → Found x y (final x cs) (final y ds)

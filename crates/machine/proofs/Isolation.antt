@@ -3,79 +3,107 @@ use Prim.Native.Nat.{ℕ}
 use mathlib.Core.Path.{_≡_, refl, sym, ap, ap₂, _∙_}
 use mathlib.Core.List.{List, [], _∷_}
 use mathlib.Core.Option.{Option, none, some}
+use lib.ListN.{replicate}
 use Rattle.machine.specs.Machine.{Machine, Isa}
-use Rattle.machine.specs.Runs.{answerOf, stepsOf, made, stepsLater, firstOr, consUnless, entryWithin, left, answers, afterRuns, total, firstEntry, beforeEntry}
+use Rattle.machine.specs.Timelines.{Item, stepped, stepsIn, stepsLater, entryIn}
+use Rattle.machine.specs.Runs.{Run, answerOf, stepsOf, made, items, consUnless, left, answers, afterRuns, timeline, total, firstEntry, beforeEntry}
 use Rattle.machine.specs.Isolation.{Alike, Compared, Found, Findings, Isolated, IsolatedApart, Isolates}
-use Rattle.machine.proofs.RunLaws.{after-steps, entry-steps, before-all}
-use Rattle.machine.proofs.StepLaws.{found-start, compared-again, found-found, Both, both-steps}
+use Rattle.machine.proofs.TimelineLaws.{firstOr, as-many}
+use Rattle.machine.proofs.RunLaws.{after-play, entry-cons, before-all}
+use Rattle.machine.proofs.StepLaws.{found-start, compared-again, found-found, Played, played}
 
--- the checks before a run get the same answer
-answer-same : (x y : Machine) → Alike x y → (b : ℕ) → answerOf x b ≡ answerOf y b
+-- ---- one run of both
+
+-- the checks before a run get the same answer, so that its items are the same
+answer-same : (x y : Machine) → Alike x y → (r : Run) → answerOf x r ≡ answerOf y r
 unfolding answerOf
-answer-same x y a b = rw (a .size, a .pages, a .ports, a .state)
+answer-same x y a r = rw (a .size, a .pages, a .ports, a .state)
 
-made-same : (x y : Machine) → Alike x y → (b : ℕ) → made x b ≡ made y b
-unfolding made
-made-same x y a b = ap (λ r. stepsOf r b) (answer-same x y a b)
+items-same : (x y : Machine) → Alike x y → (r : Run) → items x r ≡ items y r
+unfolding items made
+items-same x y a r = ap (λ z. replicate (stepsOf z (r .budget)) stepped) (answer-same x y a r)
+
+-- all that is used of a run: its first entry is at the same step; where it has none, answers, items and findings are the same
+record OneRun (isa : Isa) (r : Run) (x y : Machine) : Type 0 where
+  entry : entryIn isa (items x r) x ≡ entryIn isa (items y r) y
+  reply : entryIn isa (items x r) x ≡ none → answerOf x r ≡ answerOf y r
+  same : entryIn isa (items x r) x ≡ none → items x r ≡ items y r
+  found : entryIn isa (items x r) x ≡ none → Found x y (left isa x r) (left isa y r)
+
+one-run : (isa : Isa) (r : Run) (x y : Machine) → Compared x y → OneRun isa r x y
+unfolding left
+one-run isa r x y c =
+    let s : items x r ≡ items y r = items-same x y (c .alike) r in
+    let p : Played isa (items x r) x y = played isa (items x r) x y c in
+    record { entry = rw (← s) (p .entry); reply = λ e. answer-same x y (c .alike) r; same = λ e. s; found = λ e. rw (← s) (p .found e) }
+
+-- ---- equal lists of runs
 
 -- all of `Isolated` but `whole`, which follows from the rest
-record Before (isa : Isa) (bs : List ℕ) (x y : Machine) : Type 0 where
-  entry : firstEntry isa bs x ≡ firstEntry isa bs y
-  runs : beforeEntry isa bs x ≡ beforeEntry isa bs y
-  before : Findings isa (beforeEntry isa bs x) x y
+record Before (isa : Isa) (rs : List Run) (x y : Machine) : Type 0 where
+  entry : firstEntry isa rs x ≡ firstEntry isa rs y
+  runs : beforeEntry isa rs x ≡ beforeEntry isa rs y
+  before : Findings isa (beforeEntry isa rs x) x y
 
 findings-none : (isa : Isa) (x y : Machine) → Compared x y → Findings isa [] x y
 unfolding answers afterRuns
 findings-none isa x y c = record { replies = refl; found = found-start x y c }
 
 -- what is found of a run, and of those after it, is found of all
-findings-cons : (isa : Isa) (b : ℕ) (bs : List ℕ) (x y : Machine) → Alike x y → Found x y (left isa x b) (left isa y b)
-    → Findings isa bs (left isa x b) (left isa y b) → Findings isa (b ∷ bs) x y
+findings-cons : (isa : Isa) (r : Run) (rs : List Run) (x y : Machine) → answerOf x r ≡ answerOf y r → Found x y (left isa x r) (left isa y r)
+    → Findings isa rs (left isa x r) (left isa y r) → Findings isa (r ∷ rs) x y
 unfolding answers afterRuns
-findings-cons isa b bs x y a f h = record {
-  replies = ap₂ _∷_ (answer-same x y a b) (h .replies);
+findings-cons isa r rs x y a f h = record {
+  replies = ap₂ _∷_ a (h .replies);
   found = found-found x y _ _ _ _ f (h .found);
 }
 
--- the first run is known: the first entry is in it, or it leads to a pair that may be compared again
-before-cons : (isa : Isa) (b : ℕ) (bs : List ℕ) (x y : Machine) → Compared x y → made x b ≡ made y b
-    → (entryWithin isa (made x b) x ≡ none → Found x y (left isa x b) (left isa y b))
-    → ((x' y' : Machine) → Compared x' y' → Before isa bs x' y')
-    → (r : Option ℕ) → entryWithin isa (made x b) x ≡ r → entryWithin isa (made y b) y ≡ r → Before isa (b ∷ bs) x y
-unfolding firstEntry beforeEntry consUnless firstOr
-before-cons isa b bs x y c n f ih (some k) e e' = record {
-  entry = rw (e, e') refl;
+-- the first entry is in the first run, or that leads to a pair that may be compared again
+before-cons : (isa : Isa) (r : Run) (rs : List Run) (x y : Machine) → Compared x y → OneRun isa r x y
+    → ((x' y' : Machine) → Compared x' y' → Before isa rs x' y')
+    → (k : Option ℕ) → entryIn isa (items x r) x ≡ k → entryIn isa (items y r) y ≡ k → Before isa (r ∷ rs) x y
+unfolding beforeEntry consUnless firstOr
+before-cons isa r rs x y c o ih (some k) e e' = record {
+  entry = rw (entry-cons isa r rs x, entry-cons isa r rs y, e, e') refl;
   runs = rw (e, e') refl;
   before = rw e (findings-none isa x y c);
 }
-before-cons isa b bs x y c n f ih none e e' =
-    let i : Before isa bs (left isa x b) (left isa y b) = ih _ _ (compared-again x y _ _ c (f e)) in
+before-cons isa r rs x y c o ih none e e' =
+    let i : Before isa rs (left isa x r) (left isa y r) = ih _ _ (compared-again x y _ _ c (o .found e)) in
     record {
-      entry = rw (e, e', n) (ap (stepsLater (made y b)) (i .entry));
-      runs = rw (e, e') (ap (b ∷_) (i .runs));
-      before = rw e (findings-cons isa b _ x y (c .alike) (f e) (i .before));
+      entry = rw (entry-cons isa r rs x, entry-cons isa r rs y, e, e', o .same e) (ap (stepsLater (stepsIn (items y r))) (i .entry));
+      runs = rw (e, e') (ap (r ∷_) (i .runs));
+      before = rw e (findings-cons isa r _ x y (o .reply e) (o .found e) (i .before));
     }
 
-before-entry : (isa : Isa) (bs : List ℕ) (x y : Machine) → Compared x y → Before isa bs x y
-unfolding firstEntry beforeEntry left
+before-entry : (isa : Isa) (rs : List Run) (x y : Machine) → Compared x y → Before isa rs x y
+unfolding firstEntry timeline beforeEntry entryIn
 before-entry isa [] x y c = record { entry = refl; runs = refl; before = findings-none isa x y c }
-before-entry isa (b ∷ bs) x y c =
-    let n : made x b ≡ made y b = made-same x y (c .alike) b in
-    let d : Both isa (made x b) x y = both-steps isa (made x b) x y c in
-    before-cons isa b bs x y c n (λ e. rw (← n) (d .found e)) (λ x' y' c'. before-entry isa bs x' y' c') _ refl (rw (← n) (sym (d .entry)))
+before-entry isa (r ∷ rs) x y c =
+    let o : OneRun isa r x y = one-run isa r x y c in
+    before-cons isa r rs x y c o (λ x' y' c'. before-entry isa rs x' y' c') _ refl (sym (o .entry))
 
-pub isolated : (isa : Isa) (bs : List ℕ) (x y : Machine) → Compared x y → Isolated isa bs x y
-isolated isa bs x y c =
-    let i : Before isa bs x y = before-entry isa bs x y c in
-    record { entry = i .entry; whole = λ h. rw (before-all isa bs x h) at (i .before); runs = i .runs; before = i .before }
+pub isolated : (isa : Isa) (rs : List Run) (x y : Machine) → Compared x y → Isolated isa rs x y
+isolated isa rs x y c =
+    let i : Before isa rs x y = before-entry isa rs x y c in
+    record { entry = i .entry; whole = λ h. rw (before-all isa rs x h) at (i .before); runs = i .runs; before = i .before }
 
-pub isolated-apart : (isa : Isa) (bs cs : List ℕ) (x y : Machine) → Compared x y → total isa bs x ≡ total isa cs y → IsolatedApart isa bs cs x y
-isolated-apart isa bs cs x y c t =
-    let d : Both isa (total isa bs x) x y = both-steps isa (total isa bs x) x y c in
+-- ---- lists of unequal budgets
+
+-- with equal timelines
+pub isolated-apart : (isa : Isa) (rs qs : List Run) (x y : Machine) → Compared x y → timeline isa rs x ≡ timeline isa qs y → IsolatedApart isa rs qs x y
+unfolding firstEntry
+isolated-apart isa rs qs x y c t =
+    let p : Played isa (timeline isa rs x) x y = played isa (timeline isa rs x) x y c in
     record {
-      entry = entry-steps isa bs x ∙ d .entry ∙ ap (λ (n : ℕ). entryWithin isa n y) t ∙ sym (entry-steps isa cs y);
-      found = λ h. rw (after-steps isa bs x, after-steps isa cs y, ← t) (d .found (sym (entry-steps isa bs x) ∙ h));
+      entry = p .entry ∙ ap (λ (u : List Item). entryIn isa u y) t;
+      found = λ h. rw (after-play isa rs x, after-play isa qs y, ← t) (p .found h);
     }
+
+-- that make equally many steps
+pub isolated-equally : (isa : Isa) (rs qs : List Run) (x y : Machine) → Compared x y → total isa rs x ≡ total isa qs y → IsolatedApart isa rs qs x y
+unfolding total
+isolated-equally isa rs qs x y c n = isolated-apart isa rs qs x y c (as-many (timeline isa rs x) (timeline isa qs y) n)
 
 pub isolation : (isa : Isa) → Isolates isa
-isolation isa = record { runs = isolated isa; apart = isolated-apart isa }
+isolation isa = record { runs = isolated isa; apart = isolated-apart isa; equally-many = isolated-equally isa }

@@ -3,6 +3,7 @@ pub mod MachineLaws
 pub mod InterruptLaws
 pub mod SameLaws
 pub mod InstructionLaws
+pub mod TimelineLaws
 pub mod RunLaws
 pub mod StepLaws
 pub mod Isolation

@@ -1,10 +1,10 @@
--- Two machines compared, step by step: a step is an entry in both or in neither, and one that is none leads to such a pair again.
+-- Two machines compared, step by step: a step is an entry in both or in neither, and one that is none leads to such a pair again; and so over a timeline.
 -- Assumes nothing.
-use Prim.Native.Nat.{ℕ, zero, suc}
+use Prim.Native.Nat.{ℕ}
 use mathlib.Core.Path.{_≡_, refl, ap, _∙_, subst}
 use mathlib.Core.Logic.{_≢_}
 use mathlib.Core.Bool.{Bool, true, false, true≢false}
-use mathlib.Core.List.{List}
+use mathlib.Core.List.{List, [], _∷_}
 use mathlib.Core.Option.{none}
 use native.Mathlib.Omega.{arith}
 use lib.Dec.{ltb}
@@ -17,12 +17,12 @@ use Rattle.machine.specs.Machine.{Machine, machine, Isa}
 use Rattle.machine.specs.Instructions.{Action, enter, call, fail, affect, govern, View}
 use Rattle.machine.specs.Entries.{chosen}
 use Rattle.machine.specs.Step.{released, faulted, affected, stored, perform, ticked, tick, isEntry, begun, action, step}
-use Rattle.machine.specs.Runs.{steps, entryWithin, hereOr, stepsLater}
+use Rattle.machine.specs.Timelines.{Item, stepped, hereOr, stepsLater, afterItem, play, entryIn}
 use Rattle.machine.specs.Isolation.{Alike, key, group, Compared, Found}
 use Rattle.page.proofs.ReachLaws.{written-barred}
 use Rattle.machine.proofs.SameLaws.{Same, written-same}
 use Rattle.machine.proofs.InstructionLaws.{view-same, Governed, instructed-governed}
-use Rattle.machine.proofs.RunLaws.{some≢none, later-none}
+use Rattle.machine.proofs.TimelineLaws.{some≢none, later-none}
 
 -- ---- pairs of machines
 
@@ -133,29 +133,30 @@ step-found isa x y c e =
     shared (λ z. Found x z (step isa x) (step isa z)) x y (c .alike)
     (step-shared isa (x .state) (x .memory) (y .memory) (x .pages) (x .ports) (same-of x y c) (c .keyed) e)
 
--- ---- any number of steps
+-- ---- a timeline of two machines that are compared: property 3 follows from this induction, for equal lists of runs and for unequal budgets
 
-pub record Both (isa : Isa) (n : ℕ) (x y : Machine) : Type 0 where
-  pub entry : entryWithin isa n x ≡ entryWithin isa n y
-  pub found : entryWithin isa n x ≡ none → Found x y (steps isa n x) (steps isa n y)
+-- the first entry is at the same step, or there is none in either; and where there is none, the findings
+pub record Played (isa : Isa) (t : List Item) (x y : Machine) : Type 0 where
+  pub entry : entryIn isa t x ≡ entryIn isa t y
+  pub found : entryIn isa t x ≡ none → Found x y (play isa t x) (play isa t y)
 
--- the first step is known: an entry, or one that leads to such a pair again
-both-suc : (isa : Isa) (n : ℕ) (x y : Machine) → Compared x y → ((x' y' : Machine) → Compared x' y' → Both isa n x' y')
-    → (b : Bool) → isEntry (action isa x) ≡ b → Both isa (suc n) x y
-unfolding steps entryWithin hereOr
-both-suc isa n x y c ih true e = record {
+-- the first item is a step, and known: an entry, or one that leads to such a pair again
+played-step : (isa : Isa) (t : List Item) (x y : Machine) → Compared x y → ((x' y' : Machine) → Compared x' y' → Played isa t x' y')
+    → (b : Bool) → isEntry (action isa x) ≡ b → Played isa (stepped ∷ t) x y
+unfolding play afterItem entryIn hereOr
+played-step isa t x y c ih true e = record {
   entry = rw (← action-same isa x y c, e) refl;
   found = λ h. some≢none 0 (rw e at h);
 }
-both-suc isa n x y c ih false e =
+played-step isa t x y c ih false e =
     let f : Found x y (step isa x) (step isa y) = step-found isa x y c e in
-    let b : Both isa n (step isa x) (step isa y) = ih (step isa x) (step isa y) (compared-again x y _ _ c f) in
+    let p : Played isa t (step isa x) (step isa y) = ih (step isa x) (step isa y) (compared-again x y _ _ c f) in
     record {
-      entry = rw (← action-same isa x y c, e) (ap (stepsLater 1) (b .entry));
-      found = λ h. found-found x y _ _ _ _ f (b .found (later-none 1 _ (rw e at h)));
+      entry = rw (← action-same isa x y c, e) (ap (stepsLater 1) (p .entry));
+      found = λ h. found-found x y _ _ _ _ f (p .found (later-none 1 _ (rw e at h)));
     }
 
-pub both-steps : (isa : Isa) (n : ℕ) (x y : Machine) → Compared x y → Both isa n x y
-unfolding steps entryWithin
-both-steps isa zero x y c = record { entry = refl; found = λ h. found-start x y c }
-both-steps isa (suc n) x y c = both-suc isa n x y c (λ x' y' c'. both-steps isa n x' y' c') (isEntry (action isa x)) refl
+pub played : (isa : Isa) (t : List Item) (x y : Machine) → Compared x y → Played isa t x y
+unfolding play entryIn
+played isa [] x y c = record { entry = refl; found = λ h. found-start x y c }
+played isa (stepped ∷ t) x y c = played-step isa t x y c (λ x' y' c'. played isa t x' y' c') (isEntry (action isa x)) refl

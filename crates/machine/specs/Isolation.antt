@@ -12,7 +12,7 @@ use Rattle.page.specs.declared.Access.the-variants.{Write}
 use Rattle.page.specs.Pages.{May, MaySee}
 use Rattle.machine.specs.State.{keyOf, groupOf}
 use Rattle.machine.specs.Machine.{Machine, Isa}
-use Rattle.machine.specs.Runs.{answers, afterRuns, total, firstEntry, beforeEntry}
+use Rattle.machine.specs.Runs.{Run, answers, afterRuns, timeline, total, firstEntry, beforeEntry}
 
 -- alike (the Scope's term): every part of the state, all page registers and all ports are equal, and the memories are of one size
 pub record Alike (x y : Machine) : Type 0 where
@@ -55,26 +55,30 @@ pub record Found (x y x' y' : Machine) : Type 0 where
   pub group-kept : group x' ≡ group x
 
 -- the findings of a list of runs: the same answers, run by run, and the above of what the runs leave
-pub record Findings (isa : Isa) (bs : List ℕ) (x y : Machine) : Type 0 where
-  pub replies : answers isa bs x ≡ answers isa bs y
-  pub found : Found x y (afterRuns isa bs x) (afterRuns isa bs y)
+pub record Findings (isa : Isa) (rs : List Run) (x y : Machine) : Type 0 where
+  pub replies : answers isa rs x ≡ answers isa rs y
+  pub found : Found x y (afterRuns isa rs x) (afterRuns isa rs y)
 
--- one claim about a list of runs, with the budgets bs
-pub record Isolated (isa : Isa) (bs : List ℕ) (x y : Machine) : Type 0 where
+-- one claim about a list of runs
+pub record Isolated (isa : Isa) (rs : List Run) (x y : Machine) : Type 0 where
   -- the first entry is at the same step of the list in both, or in neither
-  pub entry : firstEntry isa bs x ≡ firstEntry isa bs y
+  pub entry : firstEntry isa rs x ≡ firstEntry isa rs y
   -- where no entry occurs, the findings hold of the whole list
-  pub whole : firstEntry isa bs x ≡ none → Findings isa bs x y
+  pub whole : firstEntry isa rs x ≡ none → Findings isa rs x y
   -- where one occurs, it does so in the same run of both, and the findings hold of the runs before that one
-  pub runs : beforeEntry isa bs x ≡ beforeEntry isa bs y
-  pub before : Findings isa (beforeEntry isa bs x) x y
+  pub runs : beforeEntry isa rs x ≡ beforeEntry isa rs y
+  pub before : Findings isa (beforeEntry isa rs x) x y
 
 -- two lists of unequal budgets leave the same findings, answers aside
-pub record IsolatedApart (isa : Isa) (bs cs : List ℕ) (x y : Machine) : Type 0 where
-  pub entry : firstEntry isa bs x ≡ firstEntry isa cs y
-  pub found : firstEntry isa bs x ≡ none → Found x y (afterRuns isa bs x) (afterRuns isa cs y)
+pub record IsolatedApart (isa : Isa) (rs qs : List Run) (x y : Machine) : Type 0 where
+  pub entry : firstEntry isa rs x ≡ firstEntry isa qs y
+  pub found : firstEntry isa rs x ≡ none → Found x y (afterRuns isa rs x) (afterRuns isa qs y)
 
--- Property 3 of the machine with an instruction set: for every list of runs, and for lists of unequal budgets that make equally many steps
+-- Property 3 of the machine with an instruction set
 pub record Isolates (isa : Isa) : Type 0 where
-  pub runs : (bs : List ℕ) (x y : Machine) → Compared x y → Isolated isa bs x y
-  pub apart : (bs cs : List ℕ) (x y : Machine) → Compared x y → total isa bs x ≡ total isa cs y → IsolatedApart isa bs cs x y
+  -- for every list of runs
+  pub runs : (rs : List Run) (x y : Machine) → Compared x y → Isolated isa rs x y
+  -- for two lists of unequal budgets with equal timelines
+  pub apart : (rs qs : List Run) (x y : Machine) → Compared x y → timeline isa rs x ≡ timeline isa qs y → IsolatedApart isa rs qs x y
+  -- "Lists of unequal budgets that make equally many steps leave the same findings, answers aside": their timelines are equal
+  pub equally-many : (rs qs : List Run) (x y : Machine) → Compared x y → total isa rs x ≡ total isa qs y → IsolatedApart isa rs qs x y

@@ -1,8 +1,9 @@
--- The definitions of the processor for any instruction set: its state, one step, runs, and the isolation of two machines.
+-- The definitions of the processor for any instruction set: its state, one step, timelines, runs, and the isolation of two machines.
 pub mod State
 pub mod Machine
 pub mod Instructions
 pub mod Entries
 pub mod Step
+pub mod Timelines
 pub mod Runs
 pub mod Isolation

@@ -1,14 +1,22 @@
--- Runs with the checks before them (Scope, "Questions at the door"), and lists of runs. Assumes nothing.
-use Prim.Native.Nat.{ℕ, zero, suc, _+_, _%_}
+-- Runs with the checks before them (Scope, "Questions at the door"), and lists of runs with their timelines (Scope, "Two machines compared"). Assumes nothing.
+use Prim.Native.Nat.{ℕ, _+_, _%_}
 use mathlib.Core.Bool.{Bool, true, false, cond, _&&_}
-use mathlib.Core.List.{List, [], _∷_}
+use mathlib.Core.List.{List, [], _∷_, _++_}
 use mathlib.Core.Option.{Option, none, some}
 use lib.Dec.{eqb, leb}
-use lib.ListN.{length}
+use lib.ListN.{length, replicate}
 use Rattle.machine.specs.declared.Answer.{Answer}
 use Rattle.machine.specs.declared.Answer.the-variants.{Spent, BadMemory, BadPages, BadPorts, BadBudget, BadCounter}
 use Rattle.machine.specs.Machine.{Machine, Isa}
-use Rattle.machine.specs.Step.{isEntry, action, step}
+use Rattle.machine.specs.Timelines.{Item, stepped, stepsIn, play, entryIn}
+
+-- a run, by what its caller chooses besides the machine
+pub record Run : Type 0 where
+  pub budget : ℕ
+
+-- the run of a budget
+abbrev pub run : ℕ → Run
+run budget = record { budget = budget }
 
 -- ---- the checks before a run, in their order
 
@@ -40,78 +48,64 @@ admission memory pages ports count budget =
     (asked (leb (count + budget) 4294967295) BadCounter
     Spent))))
 
--- an answer (the Scope's term) is all that a run replies besides the state
-unfoldable pub answerOf : Machine → ℕ → Answer
-answerOf x b = admission (length (x .memory)) (length (x .pages)) (length (x .ports)) (x .state .count) b
+-- ---- one run
 
--- an accepted run makes exactly its budget of steps, a refused one none
+-- "Its answer is all it replies besides the state"
+unfoldable pub answerOf : Machine → Run → Answer
+answerOf x r = admission (length (x .memory)) (length (x .pages)) (length (x .ports)) (x .state .count) (r .budget)
+
+-- "An accepted run makes exactly its budget of steps"; a refused one makes none
 unfoldable pub stepsOf : Answer → ℕ → ℕ
-stepsOf r b = cond (eqb (numberOf r) 0) b 0
+stepsOf a budget = cond (eqb (numberOf a) 0) budget 0
 
--- the steps that a run of budget b makes
-unfoldable pub made : Machine → ℕ → ℕ
-made x b = stepsOf (answerOf x b) b
+-- the number of steps that a run makes
+unfoldable pub made : Machine → Run → ℕ
+made x r = stepsOf (answerOf x r) (r .budget)
 
--- ---- the first entry, by the number of steps before it
+-- its items: these steps
+unfoldable pub items : Machine → Run → List Item
+items x r = replicate (made x r) stepped
 
--- at this step, or at the one that is given
-unfoldable pub hereOr : Bool → Option ℕ → Option ℕ
-hereOr true r = some 0
-hereOr false r = r
-
--- n steps later
-unfoldable pub stepsLater : ℕ → Option ℕ → Option ℕ
-stepsLater n none = none
-stepsLater n (some k) = some (n + k)
-
--- the first of two
-unfoldable pub firstOr : Option ℕ → Option ℕ → Option ℕ
-firstOr none r = r
-firstOr (some k) r = some k
-
--- the run b comes before the rest, unless it has an entry
-unfoldable pub consUnless : Option ℕ → ℕ → List ℕ → List ℕ
-consUnless none b bs = b ∷ bs
-consUnless (some k) b bs = []
+-- the run r comes before the rest, unless it has an entry
+unfoldable pub consUnless : Option ℕ → Run → List Run → List Run
+consUnless none r rs = r ∷ rs
+consUnless (some k) r rs = []
 
 module _ (isa : Isa) where
   -- n steps
   unfoldable pub steps : ℕ → Machine → Machine
-  steps zero x = x
-  steps (suc n) x = steps n (step isa x)
+  steps n x = play isa (replicate n stepped) x
 
-  -- the first entry among n steps
-  unfoldable pub entryWithin : ℕ → Machine → Option ℕ
-  entryWithin zero x = none
-  entryWithin (suc n) x = hereOr (isEntry (action isa x)) (stepsLater 1 (entryWithin n (step isa x)))
+  -- what a run leaves
+  unfoldable pub left : Machine → Run → Machine
+  left x r = play isa (items x r) x
 
-  -- what a run of budget b leaves
-  unfoldable pub left : Machine → ℕ → Machine
-  left x b = steps (made x b) x
-
-  -- ---- a list of runs, by their budgets: each gets what the one before left
+  -- ---- a list of runs: "each run gets the state, memory, page registers and ports that the one before returned or left"
 
   -- their answers, run by run
-  unfoldable pub answers : List ℕ → Machine → List Answer
+  unfoldable pub answers : List Run → Machine → List Answer
   answers [] x = []
-  answers (b ∷ bs) x = answerOf x b ∷ answers bs (left x b)
+  answers (r ∷ rs) x = answerOf x r ∷ answers rs (left x r)
 
   -- what the last one leaves
-  unfoldable pub afterRuns : List ℕ → Machine → Machine
+  unfoldable pub afterRuns : List Run → Machine → Machine
   afterRuns [] x = x
-  afterRuns (b ∷ bs) x = afterRuns bs (left x b)
+  afterRuns (r ∷ rs) x = afterRuns rs (left x r)
 
-  -- all their steps
-  unfoldable pub total : List ℕ → Machine → ℕ
-  total [] x = 0
-  total (b ∷ bs) x = made x b + total bs (left x b)
+  -- their timeline: the items of all of them
+  unfoldable pub timeline : List Run → Machine → List Item
+  timeline [] x = []
+  timeline (r ∷ rs) x = items x r ++ timeline rs (left x r)
 
-  -- the first entry, its steps counted over the whole list
-  unfoldable pub firstEntry : List ℕ → Machine → Option ℕ
-  firstEntry [] x = none
-  firstEntry (b ∷ bs) x = firstOr (entryWithin (made x b) x) (stepsLater (made x b) (firstEntry bs (left x b)))
+  -- how many steps they make
+  unfoldable pub total : List Run → Machine → ℕ
+  total rs x = stepsIn (timeline rs x)
+
+  -- the first entry; "steps are counted over the whole list"
+  unfoldable pub firstEntry : List Run → Machine → Option ℕ
+  firstEntry rs x = entryIn isa (timeline rs x) x
 
   -- the runs before the one in which the first entry occurs; all of them where there is none
-  unfoldable pub beforeEntry : List ℕ → Machine → List ℕ
+  unfoldable pub beforeEntry : List Run → Machine → List Run
   beforeEntry [] x = []
-  beforeEntry (b ∷ bs) x = consUnless (entryWithin (made x b) x) b (beforeEntry bs (left x b))
+  beforeEntry (r ∷ rs) x = consUnless (entryIn isa (items x r) x) r (beforeEntry rs (left x r))

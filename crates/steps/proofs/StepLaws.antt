@@ -15,6 +15,7 @@ use Rattle.machine.specs.Entries.{takeable, chosen}
 use Rattle.machine.specs.Step.{released, perform, begun, action, ticked, tick, step}
 use Rattle.machine.specs.Runs.{steps}
 use Rattle.machine.proofs.MachineLaws.{became-machine}
+use Rattle.machine.proofs.RunLaws.{steps-zero, steps-suc}
 use Rattle.clock.specs.Later.{Calm, later}
 use Rattle.clock.proofs.LaterLaws.{ticked-later, later-none}
 use Rattle.moved.specs.Settled.{SameTime, Settled, after}
@@ -75,14 +76,12 @@ module _ (c d : Core) (s : Settled c d) where
 -- ---- n steps
 
 pub steps-none : (isa : Isa) (n : ℕ) (x : Machine) → n ≤ 0 → steps isa n x ≡ x
-unfolding steps
-steps-none isa zero x h = refl
+steps-none isa zero x h = steps-zero isa x
 steps-none isa (suc n) x h = absurd (omega arith)
 
 pub steps-step : (isa : Isa) (n : ℕ) (x : Machine) → 0 < n → steps isa n x ≡ steps isa (n - 1) (step isa x)
-unfolding steps
 steps-step isa zero x h = absurd (omega arith)
-steps-step isa (suc n) x h = rw sub-one refl
+steps-step isa (suc n) x h = rw sub-one (steps-suc isa n x)
 
 pub steps-next : (isa : Isa) (k : ℕ) (x : Machine) → steps isa (k + 1) x ≡ steps isa k (step isa x)
 steps-next isa k x = steps-step isa (k + 1) x (omega arith) ∙ ap (λ i. steps isa i (step isa x)) (omega arith)

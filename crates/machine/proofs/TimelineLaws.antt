@@ -1,0 +1,78 @@
+-- Timelines one after another: what they lead to, their steps, and the first entry. Assumes nothing.
+use Prim.Native.Nat.{ℕ, zero, suc, _+_}
+use mathlib.Core.Path.{_≡_, refl, sym, ap, _∙_}
+use mathlib.Core.Bool.{Bool, true, false}
+use mathlib.Core.List.{List, [], _∷_, _++_}
+use mathlib.Core.Option.{Option, none, some}
+use native.Mathlib.Omega.{arith}
+use native.Mathlib.Nat.{zero-add, suc-add}
+use lib.ListN.{replicate}
+use Rattle.machine.specs.Machine.{Machine, Isa}
+use Rattle.machine.specs.Step.{step}
+use Rattle.machine.specs.Timelines.{Item, stepped, stepsIn, hereOr, stepsLater, afterItem, play, entryIn}
+
+-- ---- the number of a step
+
+pub some≢none : {A : Type 0} (k : ℕ) → some k ≡ none → A
+some≢none k e = let z : _≡_ {A = ℕ} 0 1 = cc in absurd (omega arith)
+
+pub later-none : (n : ℕ) (r : Option ℕ) → stepsLater n r ≡ none → r ≡ none
+unfolding stepsLater
+later-none n none e = refl
+later-none n (some k) e = some≢none (n + k) e
+
+-- the first of two
+unfoldable pub firstOr : Option ℕ → Option ℕ → Option ℕ
+firstOr none r = r
+firstOr (some k) r = some k
+
+later-zero : (r : Option ℕ) → stepsLater 0 r ≡ r
+unfolding stepsLater
+later-zero none = refl
+later-zero (some k) = ap some (zero-add k)
+
+later-suc : (n : ℕ) (e r : Option ℕ) → stepsLater 1 (firstOr e (stepsLater n r)) ≡ firstOr (stepsLater 1 e) (stepsLater (suc n) r)
+unfolding stepsLater firstOr
+later-suc n none none = refl
+later-suc n none (some k) = ap some (omega arith)
+later-suc n (some j) r = refl
+
+hereOr-first : (b : Bool) (e r : Option ℕ) → hereOr b (firstOr e r) ≡ firstOr (hereOr b e) r
+unfolding hereOr firstOr
+hereOr-first true e r = refl
+hereOr-first false e r = refl
+
+-- ---- one timeline after another
+
+pub play-append : (isa : Isa) (t u : List Item) (x : Machine) → play isa (t ++ u) x ≡ play isa u (play isa t x)
+unfolding play
+play-append isa [] u x = refl
+play-append isa (i ∷ t) u x = play-append isa t u (afterItem isa i x)
+
+pub steps-append : (t u : List Item) → stepsIn (t ++ u) ≡ stepsIn t + stepsIn u
+unfolding stepsIn
+steps-append [] u = sym (zero-add (stepsIn u))
+steps-append (stepped ∷ t) u = ap suc (steps-append t u) ∙ sym (suc-add (stepsIn t) (stepsIn u))
+
+pub entry-append : (isa : Isa) (t u : List Item) (x : Machine) → entryIn isa (t ++ u) x ≡ firstOr (entryIn isa t x) (stepsLater (stepsIn t) (entryIn isa u (play isa t x)))
+unfolding entryIn play afterItem stepsIn firstOr
+entry-append isa [] u x = sym (later-zero _)
+entry-append isa (stepped ∷ t) u x =
+    ap (hereOr _) (ap (stepsLater 1) (entry-append isa t u (step isa x)) ∙ later-suc (stepsIn t) _ _)
+    ∙ hereOr-first _ _ _
+
+-- ---- timelines of steps alone
+
+pub steps-repeated : (n : ℕ) → stepsIn (replicate n stepped) ≡ n
+unfolding stepsIn
+steps-repeated zero = refl
+steps-repeated (suc n) = ap suc (steps-repeated n)
+
+only-steps : (t : List Item) → t ≡ replicate (stepsIn t) stepped
+unfolding stepsIn
+only-steps [] = refl
+only-steps (stepped ∷ t) = ap (stepped ∷_) (only-steps t)
+
+-- two that have equally many steps are equal
+pub as-many : (t u : List Item) → stepsIn t ≡ stepsIn u → t ≡ u
+as-many t u e = only-steps t ∙ ap (λ (n : ℕ). replicate n stepped) e ∙ sym (only-steps u)
