@@ -1,5 +1,6 @@
 # The answers from which the proofs of the crate `vector` are written.
 LINES = 'Rattle.vector.specs.Lines.'
+PLACES = 'Rattle.vector.specs.Fields.'
 TEXTS = 'Rattle.vector.specs.Texts.'
 LAWS = 'Rattle.report.proofs.WroteLaws.'
 
@@ -63,7 +64,8 @@ A = {
     'lines/read': {'use': [EQUATIONS, OMEGA, COMPARISONS, LINES + '{entryOf, lineOf}'], 'unf': {'*': 'entryOf lineOf'},
         **tested('==≠≠≠≤<', with_words)},
     'set/put': {'use': [EQUATIONS, 'lib.Seq.{set-out}'], 'returns': 'refl', 'returns-2': 'sym (set-out _ _ _ (@if1 .left))'},
-    'set/state': {'use': [EQUATIONS, 'Rattle.vector.specs.Fields.{withWord}'], 'unf': {'*': 'withWord'}, 'returns': 'rw (@unpack .ensures, @put .ensures, @pack .ensures) refl'},
+    'set/place': {'use': [EQUATIONS, LISTS, OTHERWISE, PLACES + '{placeOf}'], 'unf': {'*': 'placeOf'}, 'arms': '@arm', 'returns-3': 'sym (%s)' % rest('(@args .number)', '24 25')},
+    'set/state': {'use': [EQUATIONS, PLACES + '{withWord}'], 'unf': {'*': 'withWord'}, 'returns': 'rw (@unpack .ensures, @put .ensures, @place .ensures, @pack .ensures) refl'},
     'text/case_line': line('caseLine', 'put-bytes', 'put-decimal', 'put-bytes2', 'put-decimal2', 'put'),
     'text/time_line': line('timeLine', 'put-bytes', 'put-hex', 'put-bytes2', 'put-hex2', 'put-bytes3', 'put-hex3', 'put-bytes4', 'put-decimal', 'put', back='rw (← @marks .ensures) '),
     'text/entry_line': line('entryLine', 'put', 'put2', 'put-hex', 'put3', 'put-hex2', 'put4'),

@@ -5,6 +5,10 @@
 
 #include "twin1750.h"
 
+#if TWIN1750_VERSION != 2
+#error "this example is written for version 2 of the interface"
+#endif
+
 enum { MEMORY = 16384, STEPS = 1000 };
 
 /* The machine. A list may be given with fewer words than it has. */
@@ -88,8 +92,8 @@ int main(void)
 {
     if (!read_image("examples/loop.image"))
         return 1;
-    expect("load", load(TWIN1750_STATE, MEMORY, TWIN1750_PAGES, TWIN1750_PORTS), 0);
-    expect("run", run(STEPS, TWIN1750_STATE, MEMORY, TWIN1750_PAGES, TWIN1750_PORTS), 0);
+    expect("load", load(TWIN1750_STATE, MEMORY, TWIN1750_PAGES, TWIN1750_PORTS), TWIN1750_DONE);
+    expect("run", run(STEPS, TWIN1750_STATE, MEMORY, TWIN1750_PAGES, TWIN1750_PORTS), TWIN1750_DONE);
     print_state();
     expect("ic", m.state[TWIN1750_IC], 1);
     expect("r3", m.state[3], 0x0010);
@@ -98,15 +102,24 @@ int main(void)
 
     /* what is not looked at stays too */
     m.state[TWIN1750_MARKS] |= 0x8000;
-    m.state[31] = 0x1750;
-    refused("31 packed words", 100, TWIN1750_STATE - 1, MEMORY, TWIN1750_PAGES, TWIN1750_PORTS);
-    refused("33 packed words", 100, TWIN1750_STATE + 1, MEMORY, TWIN1750_PAGES, TWIN1750_PORTS);
-    refused("nothing at all", 100, 0, 0, 0, 0);
-    refused("no memory", 1, TWIN1750_STATE, 0, TWIN1750_PAGES, TWIN1750_PORTS);
-    refused("4,095 words of memory", 1, TWIN1750_STATE, 4095, TWIN1750_PAGES, TWIN1750_PORTS);
-    refused("511 page registers", 2, TWIN1750_STATE, MEMORY, TWIN1750_PAGES - 1, TWIN1750_PORTS);
-    refused("513 page registers", 2, TWIN1750_STATE, MEMORY, TWIN1750_PAGES + 1, TWIN1750_PORTS);
-    refused("1,023 ports", 3, TWIN1750_STATE, MEMORY, TWIN1750_PAGES, TWIN1750_PORTS - 1);
-    refused("1,025 ports", 3, TWIN1750_STATE, MEMORY, TWIN1750_PAGES, TWIN1750_PORTS + 1);
+    m.state[24] = 0x1750;
+    m.state[TWIN1750_STATE - 1] = 0x1750;
+    refused("no packed words", TWIN1750_REFUSED_STATE, 0, MEMORY, TWIN1750_PAGES, TWIN1750_PORTS);
+    refused("32 packed words", TWIN1750_REFUSED_STATE, 32, MEMORY, TWIN1750_PAGES, TWIN1750_PORTS);
+    refused("255 packed words", TWIN1750_REFUSED_STATE, TWIN1750_STATE - 1, MEMORY, TWIN1750_PAGES, TWIN1750_PORTS);
+    refused("257 packed words", TWIN1750_REFUSED_STATE, TWIN1750_STATE + 1, MEMORY, TWIN1750_PAGES, TWIN1750_PORTS);
+    refused("nothing at all", TWIN1750_REFUSED_STATE, 0, 0, 0, 0);
+    refused("no memory", TWIN1750_REFUSED_MEMORY, TWIN1750_STATE, 0, TWIN1750_PAGES, TWIN1750_PORTS);
+    refused("4,095 words of memory", TWIN1750_REFUSED_MEMORY, TWIN1750_STATE, 4095, TWIN1750_PAGES, TWIN1750_PORTS);
+    refused("511 page registers", TWIN1750_REFUSED_PAGES, TWIN1750_STATE, MEMORY, TWIN1750_PAGES - 1, TWIN1750_PORTS);
+    refused("513 page registers", TWIN1750_REFUSED_PAGES, TWIN1750_STATE, MEMORY, TWIN1750_PAGES + 1, TWIN1750_PORTS);
+    refused("1,023 ports", TWIN1750_REFUSED_PORTS, TWIN1750_STATE, MEMORY, TWIN1750_PAGES, TWIN1750_PORTS - 1);
+    refused("1,025 ports", TWIN1750_REFUSED_PORTS, TWIN1750_STATE, MEMORY, TWIN1750_PAGES, TWIN1750_PORTS + 1);
+
+    /* a call that is done leaves 0 there */
+    expect("run of no steps", run(0, TWIN1750_STATE, MEMORY, TWIN1750_PAGES, TWIN1750_PORTS), TWIN1750_DONE);
+    expect("marks", m.state[TWIN1750_MARKS], TWIN1750_A_RUNS + TWIN1750_B_RUNS);
+    expect("word 24", m.state[24], 0);
+    expect("the last word", m.state[TWIN1750_STATE - 1], 0);
     return surprises == 0 ? 0 : 1;
 }

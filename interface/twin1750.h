@@ -2,7 +2,7 @@
  *
  * The machine is lent by the caller as four lists of 16-bit words, in the byte order of the host:
  *
- *   state    32 words, see below
+ *   state    256 words, the packed state: see below
  *   memory   one word per physical address: a multiple of 4,096 words, from 4,096 to 1,048,576
  *   pages    512 page registers: 0 to 255 the instruction set, 256 to 511 the operand set, each at 16 x group + page
  *   ports    1,024 ports
@@ -12,7 +12,7 @@
  * that is wrong is refused. A call keeps nothing after it has returned, takes nothing from the heap, and may run beside a call on
  * other lists.
  *
- * Words of the state (bit 0 is the most significant bit of a word, bit 15 the least significant):
+ * Words of the packed state (bit 0 is the most significant bit of a word, bit 15 the least significant):
  *
  *   0 to 15  R0 to R15
  *   16       IC, the instruction counter
@@ -23,25 +23,13 @@
  *   21       marks: bit 15 interrupts enabled, bit 14 hold, bit 13 timer A running, bit 12 timer B running;
  *            bits 0 to 11 are not looked at, and 0 after a call that is done
  *   22, 23   timer A, timer B
- *   24, 25   the step counter, its high word first
- *   26 to 31 not looked at, and 0 after a call that is done
+ *   24 to 30 kept for parts of a later version
+ *   32, 33   the step counter, its high word first
  *
- * Answers: 0 when the call is done, else the number of the first question that was answered by "no". A refusal changes nothing:
- * state, memory, page registers and ports are as they were, down to the bits that are not looked at.
+ * Every word that is not named here, or is kept, is not looked at, and is 0 after a call that is done.
  *
- *   both     100 is the state exactly 32 words? (asked first)
- *            1   is memory a multiple of 4,096 words, from 4,096 to 1,048,576?
- *            2   are there exactly 512 page registers?
- *            3   exactly 1,024 ports?
- *   running  4   is the budget at most 1,000,000?
- *            5   is counter plus budget at most 4,294,967,295?
- *   loading  6   does the image have two bytes?
- *            7   at most 64 entries?
- *            8   is its table whole?
- *            9   entry by entry: is the kind 1 to 4?
- *            10  is the length at least 1, and start plus length within the target?
- *            11  is no word shared with an earlier entry of the same kind?
- *            12  do exactly the bodies follow?
+ * An answer is 0 when the call is done, else the number of the first question that was answered by "no". A refusal changes nothing:
+ * state, memory, page registers and ports are as they were, down to the words and bits that are not looked at.
  */
 #ifndef TWIN1750_H
 #define TWIN1750_H
@@ -53,10 +41,17 @@
 extern "C" {
 #endif
 
-/* The numbers of words, page registers and ports that a call takes. */
-enum { TWIN1750_STATE = 32, TWIN1750_PAGES = 512, TWIN1750_PORTS = 1024 };
+/* The version of this interface. It rises when a word of the layout or a call changes its meaning. */
+#define TWIN1750_VERSION 2
 
-/* The words of the state after R0 to R15. */
+/* The numbers of packed words, page registers and ports that a call takes. */
+enum {
+    TWIN1750_STATE = 256,
+    TWIN1750_PAGES = 512,
+    TWIN1750_PORTS = 1024
+};
+
+/* The words of the packed state after R0 to R15. */
 enum {
     TWIN1750_IC = 16,
     TWIN1750_SW = 17,
@@ -66,12 +61,36 @@ enum {
     TWIN1750_MARKS = 21,
     TWIN1750_TIMER_A = 22,
     TWIN1750_TIMER_B = 23,
-    TWIN1750_COUNTER_HIGH = 24,
-    TWIN1750_COUNTER_LOW = 25
+    TWIN1750_COUNTER_HIGH = 32,
+    TWIN1750_COUNTER_LOW = 33
 };
 
-/* The marks. */
-enum { TWIN1750_ENABLED = 1, TWIN1750_HOLD = 2, TWIN1750_A_RUNS = 4, TWIN1750_B_RUNS = 8 };
+/* The marks, by the weights of their bits. */
+enum {
+    TWIN1750_ENABLED = 1,
+    TWIN1750_HOLD = 2,
+    TWIN1750_A_RUNS = 4,
+    TWIN1750_B_RUNS = 8
+};
+
+/* The answers: done, or the question that was answered by "no". Both calls ask 100 first, then 1 to 3; then a run asks 4 and 5,
+ * a load 6 to 12, of which 9 to 11 are asked entry by entry. */
+enum {
+    TWIN1750_DONE = 0,
+    TWIN1750_REFUSED_MEMORY = 1,        /* is memory a multiple of 4,096 words, from 4,096 to 1,048,576? */
+    TWIN1750_REFUSED_PAGES = 2,         /* are there exactly 512 page registers? */
+    TWIN1750_REFUSED_PORTS = 3,         /* are there exactly 1,024 ports? */
+    TWIN1750_REFUSED_BUDGET = 4,        /* is the budget at most 1,000,000? */
+    TWIN1750_REFUSED_COUNTER = 5,       /* is counter plus budget at most 4,294,967,295? */
+    TWIN1750_REFUSED_NO_COUNT = 6,      /* does the image have two bytes? */
+    TWIN1750_REFUSED_MANY_ENTRIES = 7,  /* does it have at most 64 entries? */
+    TWIN1750_REFUSED_SHORT_TABLE = 8,   /* is its table whole? */
+    TWIN1750_REFUSED_KIND = 9,          /* is the kind 1 to 4? */
+    TWIN1750_REFUSED_RANGE = 10,        /* is the length at least 1, and start plus length within the target? */
+    TWIN1750_REFUSED_SHARED_WORD = 11,  /* is no word shared with an earlier entry of the same kind? */
+    TWIN1750_REFUSED_BODIES = 12,       /* do exactly the bodies follow? */
+    TWIN1750_REFUSED_STATE = 100        /* is the packed state exactly 256 words? */
+};
 
 /* Loads an image: resets the machine, then writes the bodies. Of what is lent only the lengths matter to an accepted image. */
 uint32_t twin1750_load(const uint8_t *image, size_t image_len,

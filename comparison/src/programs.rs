@@ -1,6 +1,6 @@
 //! The programs of the benchmark, each a machine to start from.
 
-use crate::packed::{ENABLED, IC, MARKS, MK, RUNNING_A, RUNNING_B, STATE_WORDS, SW, TIMER_A};
+use crate::packed::{A_RUNS, B_RUNS, ENABLED, IC, MARKS, MK, STATE_WORDS, SW, TIMER_A};
 use crate::subject::Lent;
 
 /// Every program with its name.
@@ -25,7 +25,7 @@ fn machine(ic: u16, words: &[(usize, &[u16])]) -> Lent {
         lent.memory[*start..start + words.len()].copy_from_slice(words);
     }
     lent.state[IC] = ic;
-    lent.state[MARKS] = RUNNING_A | RUNNING_B;
+    lent.state[MARKS] = A_RUNS | B_RUNS;
     lent
 }
 

@@ -2,7 +2,7 @@
 
 use crate::images::image;
 use crate::numbers::Numbers;
-use crate::packed::{COUNTER, STATE_WORDS};
+use crate::packed::{set_counter, STATE_WORDS};
 use crate::subject::{Call, Lent};
 
 /// The longest run.
@@ -19,7 +19,7 @@ pub fn near_refusal(numbers: &mut Numbers, lent: &mut Lent) -> Call {
         *word = numbers.word();
     }
     if numbers.once_in(8) {
-        lent.state.resize(numbers.pick(&[0, 1, 26, 31, 33, 64]), 0);
+        lent.state.resize(numbers.pick(&[0, 1, 32, 34, 255, 257, 512]), 0);
     }
     if numbers.once_in(6) {
         lent.pages.resize(numbers.pick(&[0, 1, 256, 511, 513, 1024]), 7);
@@ -53,7 +53,7 @@ fn memory_words(numbers: &mut Numbers) -> usize {
 /// Sets the counter so that it has just room for the budget, or just not.
 fn near_the_end(numbers: &mut Numbers, lent: &mut Lent, budget: u32) {
     let counter = (u32::MAX - budget).wrapping_add(numbers.below(4)).wrapping_sub(2);
-    if let Some(words) = lent.state.get_mut(COUNTER..COUNTER + 2) {
-        words.copy_from_slice(&[(counter >> 16) as u16, counter as u16]);
+    if lent.state.len() == STATE_WORDS {
+        set_counter(&mut lent.state, counter);
     }
 }

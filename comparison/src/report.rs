@@ -1,7 +1,7 @@
 //! A difference: where it was found, the fewest steps that show it, and what differs.
 
 use crate::compare::{Batch, Pair};
-use crate::packed::{name, unpack, IC, STATE_WORDS};
+use crate::packed::{name, unpack, unused, IC, STATE_WORDS};
 use crate::subject::{Call, Lent};
 use crate::watch::next;
 use std::fmt;
@@ -80,9 +80,9 @@ impl fmt::Display for Difference {
             }
         }
         writeln!(f, "answers: {} and {}", self.answers[0], self.answers[1])?;
-        writeln!(f, "state before  {:04X?}", self.before.state)?;
-        writeln!(f, "simulator     {:04X?}", self.left.state)?;
-        writeln!(f, "twin          {:04X?}", self.right.state)?;
+        writeln!(f, "state before  {:04X?}", parts(&self.before))?;
+        writeln!(f, "simulator     {:04X?}", parts(&self.left))?;
+        writeln!(f, "twin          {:04X?}", parts(&self.right))?;
         let words = differing(&self.left, &self.right);
         writeln!(f, "differing words: {} (simulator, twin)", words.len())?;
         for word in words.iter().take(PRINTED) {
@@ -90,6 +90,11 @@ impl fmt::Display for Difference {
         }
         Ok(())
     }
+}
+
+/// The words of a packed state that some part has.
+fn parts(lent: &Lent) -> Vec<u16> {
+    lent.state.iter().zip(unused()).filter(|(_, unused)| !unused).map(|(word, _)| *word).collect()
 }
 
 /// What the next step of a machine does, in print.

@@ -2,7 +2,8 @@
 
 use crate::code::instruction;
 use crate::numbers::Numbers;
-use crate::packed::{COUNTER, FT, IC, MARKS, MK, PI, REST, STATE_WORDS, SW, TIMER_A, TIMER_B};
+use crate::packed::{set_counter, unused};
+use crate::packed::{FT, IC, MARKS, MK, PI, STATE_WORDS, SW, TIMER_A, TIMER_B};
 use crate::shapes::{shape, Shape};
 use crate::subject::Lent;
 use crate::watch::place;
@@ -125,9 +126,13 @@ pub fn stir(numbers: &mut Numbers, lent: &mut Lent) {
         let near = 0_u16.wrapping_sub(numbers.small(6));
         state[timer] = if numbers.once_in(2) { near } else { numbers.word() };
     }
-    let counter = counter(numbers);
-    [state[COUNTER], state[COUNTER + 1]] = [(counter >> 16) as u16, counter as u16];
-    state[REST..].iter_mut().for_each(|word| *word = numbers.word());
+    set_counter(state, counter(numbers));
+    let first = numbers.word();
+    for ((number, word), unused) in (0..).zip(state).zip(unused()) {
+        if unused {
+            *word = first.wrapping_add(number);
+        }
+    }
 }
 
 /// A counter: small, any, or near its end.

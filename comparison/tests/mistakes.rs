@@ -2,7 +2,7 @@
 //! a difference is reported within the quick batch.
 
 use comparison::{compare, Batch, Lent, Next, Simulated, Stepped, Subject, Twin, Watcher};
-use comparison::{CASES, SEED};
+use comparison::{packed::STATE_WORDS, CASES, SEED};
 use simulator::State;
 
 /// The number of the first case in which a simulator differs from the twin, in so many cases.
@@ -147,7 +147,7 @@ impl Subject for WrongCall {
         match (self.0, answer) {
             (0, 4) if budget == 1_000_001 => 0,
             (1, 0) => {
-                lent.state[31] = rest.unwrap_or_default();
+                lent.state[STATE_WORDS - 1] = rest.unwrap_or_default();
                 0
             }
             (2, 5) => {

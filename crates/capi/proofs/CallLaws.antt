@@ -12,18 +12,18 @@ use Rattle.machine.specs.Runs.{run}
 use Rattle.machine.proofs.RunLaws.{refused-left}
 use Rattle.isa.specs.Mil1750.{mil1750}
 use Rattle.image.specs.Image as image
-use Rattle.packed.specs.Packed.{packed}
+use Rattle.packed.specs.Packed.{size, packed}
 use Rattle.capi.specs.Calls.{Reply, Replied, reply, sized, given, loading, running}
 
 -- ---- the questions
 
--- a number of packed words other than 32
-pub unsized : (w : List ℕ) (x : Machine) (rest : Reply) → (length w ≡ 32 → ⊥) → Replied (sized w x rest) 100 w (x .memory) (x .pages) (x .ports)
+-- a number of packed words other than 256
+pub unsized : (w : List ℕ) (x : Machine) (rest : Reply) → (length w ≡ size → ⊥) → Replied (sized w x rest) 100 w (x .memory) (x .pages) (x .ports)
 unfolding sized reply
 unsized w x rest h = rw (ne-eqb _ _ h) (record { answer-is = refl; words-is = refl; memory-is = refl; pages-is = refl; ports-is = refl })
 
--- 32 packed words: the number n of the answer k decides
-module _ (w : List ℕ) (x y : Machine) (k n : ℕ) (whole : length w ≡ 32) (is : n ≡ k) where
+-- 256 packed words: the number n of the answer k decides
+module _ (w : List ℕ) (x y : Machine) (k n : ℕ) (whole : length w ≡ size) (is : n ≡ k) where
   module _ {s : State} {m g o : List ℕ} (became : Became y s m g o) where
     pub refused : (n ≡ 0 → ⊥) → Replied (sized w x (reply k w y)) n w m g o
     unfolding sized reply
@@ -50,9 +50,9 @@ module _ (w memory pages ports : List ℕ) where
   pub loading-keeps : (b : List ℕ) → (loading w memory pages ports b .answer ≡ 0 → ⊥)
       → Replied (loading w memory pages ports b) (loading w memory pages ports b .answer) w memory pages ports
   unfolding loading given sized image.afterLoading
-  loading-keeps b = keeps w _ _ _ (λ h. rw (ne-eqb _ _ h) refl) (eqb (length w) 32)
+  loading-keeps b = keeps w _ _ _ (λ h. rw (ne-eqb _ _ h) refl) (eqb (length w) size)
 
   pub running-keeps : (budget : ℕ) → (running w memory pages ports budget .answer ≡ 0 → ⊥)
       → Replied (running w memory pages ports budget) (running w memory pages ports budget .answer) w memory pages ports
   unfolding running given sized
-  running-keeps budget = keeps w _ _ _ (refused-left mil1750 _ (run budget)) (eqb (length w) 32)
+  running-keeps budget = keeps w _ _ _ (refused-left mil1750 _ (run budget)) (eqb (length w) size)

@@ -9,7 +9,7 @@ use Rattle.machine.specs.Machine.{Machine, machine}
 use Rattle.machine.specs.Runs.{run, numberOf, answerOf, left}
 use Rattle.isa.specs.Mil1750.{mil1750}
 use Rattle.image.specs.Image as image
-use Rattle.packed.specs.Packed.{unpacked, packed}
+use Rattle.packed.specs.Packed.{size, unpacked, packed}
 
 -- the answer to a call, and what it leaves of the packed words, memory, page registers and ports
 pub record Reply : Type 0 where
@@ -31,9 +31,9 @@ pub record Replied (p : Reply) (answer : ℕ) (words memory pages ports : List �
 unfoldable pub reply : ℕ → List ℕ → Machine → Reply
 reply n w y = record { answer = n; words = cond (eqb n 0) (packed (y .state)) w; memory = y .memory; pages = y .pages; ports = y .ports }
 
--- the first question: are there exactly 32 packed words? No: 100, and the machine x stays
+-- the first question: are there exactly 256 packed words? No: 100, and the machine x stays
 unfoldable pub sized : List ℕ → Machine → Reply → Reply
-sized w x rest = cond (eqb (length w) 32) rest (reply 100 w x)
+sized w x rest = cond (eqb (length w) size) rest (reply 100 w x)
 
 module _ (w memory pages ports : List ℕ) where
   -- the machine that is given

@@ -15,7 +15,7 @@ pub extern "C" fn twin1750_load(
     ensures { λ r. ⌜ Replied (loading (now (state .entry)) (now (memory .entry)) (now (pages .entry)) (now (ports .entry)) (now (image .entry)))
         r (now (state .exit)) (now (memory .exit)) (now (pages .exit)) (now (ports .exit)) ⌝ }
 {
-    if state.len() != 32 {
+    if state.len() != packed::SIZE {
         return 100;
     }
     let given = unpack(state);

@@ -1,10 +1,12 @@
 -- A known state and its words, computed. Assumes nothing.
 use Prim.Native.Nat.{ℕ}
 use mathlib.Core.Bool.{true, false}
-use mathlib.Core.List.{List, [], _∷_}
+use mathlib.Core.List.{List, [], _∷_, _++_}
+use lib.ListN.{replicate}
 use mathlib.Core.Path.{_≡_, refl}
 use Rattle.machine.specs.declared.State.{State}
-use Rattle.packed.specs.Packed.{marked, markAt, marksOf, unpacked, others, packed}
+use Rattle.machine.specs.State.{withRegs, withIc, withSw, withMk, withPi, withFt, withEnabled, withHold, withTa, withTb, withTaOn, withTbOn, withCount}
+use Rattle.packed.specs.Packed.{marks, marked, markAt, marksOf, withMarks, layout, unpacked, packed}
 
 -- interrupts enabled, no hold mark, both timers running; the counter is 65,536 × 21 + 22
 abbrev known : State
@@ -24,13 +26,16 @@ known = record {
   count = 1376278;
 }
 
-abbrev words : List ℕ
-words = 0 ∷ 1 ∷ 2 ∷ 3 ∷ 4 ∷ 5 ∷ 6 ∷ 7 ∷ 8 ∷ 9 ∷ 10 ∷ 11 ∷ 12 ∷ 13 ∷ 14 ∷ 15 ∷ 16 ∷ 17 ∷ 18 ∷ 19 ∷ 20 ∷ 13 ∷ 23 ∷ 24 ∷ 21 ∷ 22 ∷ 0 ∷ 0 ∷ 0 ∷ 0 ∷ 0 ∷ 0 ∷ []
+-- its words, those that no part has being v
+abbrev words : ℕ → List ℕ
+words v =
+    (0 ∷ 1 ∷ 2 ∷ 3 ∷ 4 ∷ 5 ∷ 6 ∷ 7 ∷ 8 ∷ 9 ∷ 10 ∷ 11 ∷ 12 ∷ 13 ∷ 14 ∷ 15 ∷ 16 ∷ 17 ∷ 18 ∷ 19 ∷ 20 ∷ 13 ∷ 23 ∷ 24 ∷ [])
+    ++ (replicate 8 v ++ ((21 ∷ 22 ∷ []) ++ replicate 222 v))
 
-known-packed : packed known ≡ words
-unfolding packed others marksOf markAt
+known-packed : packed known ≡ words 0
+unfolding packed layout marks marksOf markAt
 known-packed = refl
 
-known-unpacked : unpacked words ≡ known
-unfolding unpacked marked
-known-unpacked = refl
+known-unpacked : (v : ℕ) → unpacked (words v) ≡ known
+unfolding unpacked layout marks withMarks marked withRegs withIc withSw withMk withPi withFt withEnabled withHold withTa withTb withTaOn withTbOn withCount
+known-unpacked v = refl

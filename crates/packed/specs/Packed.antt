@@ -1,16 +1,38 @@
--- The packed state: a state as 32 words w. Bit 0 of a word is the most significant. Assumes nothing.
-use Prim.Native.Nat.{ℕ, _+_, _*_, _/_, _%_}
+-- The packed state: a state as 256 words w. Bit 0 of a word is the most significant. Assumes nothing.
+use Prim.Native.Nat.{ℕ, suc, _+_, _*_, _/_, _%_}
 use mathlib.Core.Bool.{Bool, cond}
-use mathlib.Core.List.{List, [], _∷_, _++_}
+use mathlib.Core.List.{List, [], _∷_}
 use lib.Dec.{eqb}
-use lib.ListN.{take, getD}
+use lib.ListN.{take, drop, getD, replicate}
 use lib.Seq.{paste}
 use Rattle.machine.specs.declared.State.{State}
+use Rattle.machine.specs.State.{withRegs, withIc, withSw, withMk, withPi, withFt, withEnabled, withHold, withTa, withTb, withTaOn, withTbOn, withCount}
 use Rattle.bits.specs.Bits.{weight}
+use Rattle.reset.specs.Reset.{resetState}
 
--- the list d with the first sixteen words of s written from word `at` on
-unfoldable pub withSixteen : List ℕ → ℕ → List ℕ → List ℕ
-withSixteen d at s = paste d at s 16
+-- how many words there are
+abbrev pub size : ℕ
+size = 256
+
+-- ---- the marks: one word
+
+-- a mark: its bit, whether it is on in a state, and the state with it on or off
+pub record Mark : Type 0 where
+  pub bit : ℕ
+  pub of : State → Bool
+  pub put : State → Bool → State
+
+abbrev pub mark : ℕ → (State → Bool) → (State → Bool → State) → Mark
+mark bit of put = record { bit = bit; of = of; put = put }
+
+-- bits 0 to 11 are no marks
+unfoldable pub marks : List Mark
+marks =
+    mark 15 (λ s. s .enabled) withEnabled
+    ∷ mark 14 (λ s. s .hold) withHold
+    ∷ mark 13 (λ s. s .taon) withTaOn
+    ∷ mark 12 (λ s. s .tbon) withTbOn
+    ∷ []
 
 -- whether bit n of a word is one
 unfoldable pub marked : ℕ → ℕ → Bool
@@ -20,34 +42,69 @@ marked word n = eqb (word / weight n % 2) 1
 unfoldable pub markAt : Bool → ℕ → ℕ
 markAt on n = cond on (weight n) 0
 
--- word 21: bit 15 interrupts enabled, bit 14 the hold mark, bit 13 timer A running, bit 12 timer B running
+-- the word of some marks of a state, and the state with those of a word
+abbrev pub summed : List Mark → State → ℕ
+summed [] s = 0
+summed (m ∷ ms) s = summed ms s + markAt (m .of s) (m .bit)
+
+abbrev pub remarked : List Mark → State → ℕ → State
+remarked [] s word = s
+remarked (m ∷ ms) s word = remarked ms (m .put s (marked word (m .bit))) word
+
 unfoldable pub marksOf : State → ℕ
-marksOf s = markAt (s .enabled) 15 + markAt (s .hold) 14 + markAt (s .taon) 13 + markAt (s .tbon) 12
+marksOf s = summed marks s
 
--- the state that 32 words stand for: words 26 to 31 and bits 0 to 11 of word 21 are not looked at
-unfoldable pub unpacked : List ℕ → State
-unpacked w =
-    let marks = getD w 21 0 in
-    record {
-      regs = take 16 w;
-      ic = getD w 16 0;
-      sw = getD w 17 0;
-      mk = getD w 18 0;
-      pi = getD w 19 0;
-      ft = getD w 20 0;
-      enabled = marked marks 15;
-      hold = marked marks 14;
-      taon = marked marks 13;
-      tbon = marked marks 12;
-      ta = getD w 22 0;
-      tb = getD w 23 0;
-      count = 65536 * getD w 24 0 + getD w 25 0;
-    }
+unfoldable pub withMarks : State → ℕ → State
+withMarks s word = remarked marks s word
 
--- the words after R0 to R15: IC, SW, MK, PI, FT, the marks, timers A and B, the counter, its high word first, and six words 0
-unfoldable pub others : State → List ℕ
-others s = s .ic ∷ s .sw ∷ s .mk ∷ s .pi ∷ s .ft ∷ marksOf s ∷ s .ta ∷ s .tb ∷ s .count / 65536 ∷ s .count % 65536 ∷ 0 ∷ 0 ∷ 0 ∷ 0 ∷ 0 ∷ 0 ∷ []
+-- ---- the layout
 
--- the 32 words of a state
+-- a part: its first word, how many it has, which they are of a state, and the state with it taken from w
+pub record Part : Type 0 where
+  pub first : ℕ
+  pub count : ℕ
+  pub of : State → List ℕ
+  pub put : State → List ℕ → State
+
+-- a part of several words, of one, and of two that are one number, its high word first
+abbrev pub words : ℕ → ℕ → (State → List ℕ) → (State → List ℕ → State) → Part
+words at n of put = record { first = at; count = n; of = of; put = λ s w. put s (take n (drop at w)) }
+
+abbrev pub word : ℕ → (State → ℕ) → (State → ℕ → State) → Part
+word at of put = record { first = at; count = 1; of = λ s. of s ∷ []; put = λ s w. put s (getD w at 0) }
+
+abbrev pub double : ℕ → (State → ℕ) → (State → ℕ → State) → Part
+double at of put =
+    record { first = at; count = 2; of = λ s. of s / 65536 ∷ of s % 65536 ∷ []; put = λ s w. put s (65536 * getD w at 0 + getD w (suc at) 0) }
+
+-- every part, by its first word; 24 to 30 are kept for later ones. A word that no part has is not looked at, and 0 in a packed state
+unfoldable pub layout : List Part
+layout =
+    words 0 16 (λ s. s .regs) withRegs
+    ∷ word 16 (λ s. s .ic) withIc
+    ∷ word 17 (λ s. s .sw) withSw
+    ∷ word 18 (λ s. s .mk) withMk
+    ∷ word 19 (λ s. s .pi) withPi
+    ∷ word 20 (λ s. s .ft) withFt
+    ∷ word 21 marksOf withMarks
+    ∷ word 22 (λ s. s .ta) withTa
+    ∷ word 23 (λ s. s .tb) withTb
+    ∷ double 32 (λ s. s .count) withCount
+    ∷ []
+
+-- the words of a state that some parts make, the others 0; and the state with some parts taken from w
+abbrev pub laid : List Part → State → List ℕ
+laid [] s = replicate size 0
+laid (p ∷ ps) s = paste (laid ps s) (p .first) (p .of s) (p .count)
+
+abbrev pub taken : List Part → State → List ℕ → State
+taken [] s w = s
+taken (p ∷ ps) s w = taken ps (p .put s w) w
+
+-- the 256 words of a state
 unfoldable pub packed : State → List ℕ
-packed s = s .regs ++ others s
+packed s = laid layout s
+
+-- the state that 256 words stand for: every part is taken from them
+unfoldable pub unpacked : List ℕ → State
+unpacked w = taken layout resetState w

@@ -1,20 +1,50 @@
-// The packed state: a state as 32 words.
-// 0 to 15 are R0 to R15, 16 IC, 17 SW, 18 MK, 19 PI, 20 FT, 21 the marks, 22 and 23 timers A and B, 24 and 25 the counter, high word first; 26 to 31 are 0.
+// The packed state: a state as 256 words, in the layout of the C interface (specs/Packed.antt, `layout`).
+// 0 to 15 are R0 to R15; a word that no part has is not looked at, and 0 in a packed state.
 ghost use mathlib.Core.Path.{_≡_};
 ghost use Prim.Native.Nat.{_+_, _/_, _%_, _<_, _≤_};
 ghost use mathlib.Core.Bool.{cond};
 ghost use lib.Dec.{eqb};
 ghost use lib.ListN.{length};
-ghost use Rattle.packed.specs.Packed.{withSixteen, marksOf, unpacked, packed};
+ghost use lib.Seq.{paste};
+ghost use Rattle.packed.specs.Packed.{size, marksOf, unpacked, packed};
 use machine::State;
 
-// The first sixteen words of a list written into another from word `at` on. Callers have as many on both sides.
+// How many words there are.
+pub const SIZE: usize = 256;
+// The words of the parts after R0 to R15; the counter has two, the high one first.
+const IC: usize = 16;
+
+const SW: usize = 17;
+
+const MK: usize = 18;
+
+const PI: usize = 19;
+
+const FT: usize = 20;
+
+const MARKS: usize = 21;
+
+const TIMER_A: usize = 22;
+
+const TIMER_B: usize = 23;
+
+const COUNTER: usize = 32;
+// The marks, by the weights of their bits.
+const ENABLED: u16 = 1;
+
+const HOLD: u16 = 2;
+
+const A_RUNS: u16 = 4;
+
+const B_RUNS: u16 = 8;
+
+// A list written into another from word `at` on. Callers have as many words there.
 fn copy(to: &mut [u16], at: usize, from: &[u16])
-    requires { ⌜ (at + 16 ≤ length (now to)) × (16 ≤ length (now from)) ⌝ }
-    ensures { λ _. ⌜ now (to .exit) ≡ withSixteen (now (to .entry)) at (now (from .entry)) ⌝ }
+    requires { ⌜ at + length (now from) ≤ length (now to) ⌝ }
+    ensures { λ _. ⌜ now (to .exit) ≡ paste (now (to .entry)) at (now (from .entry)) (length (now (from .entry))) ⌝ }
 {
     let mut i: usize = 0;
-    while i < 16 {
+    while i < from.len() {
         to[at + i] = from[i];
         i += 1;
     }
@@ -42,64 +72,55 @@ fn mark(on: bool, weight: u16) -> u16
     if on { weight } else { 0 }
 }
 
-// The word of the four marks.
+// The word of the marks.
 pub fn marks(s: State) -> u16
     ensures { λ r. ⌜ r ≡ marksOf s ⌝ }
 {
-    mark(s.enabled, 1) + mark(s.hold, 2) + mark(s.taon, 4) + mark(s.tbon, 8)
+    mark(s.enabled, ENABLED) + mark(s.hold, HOLD) + mark(s.taon, A_RUNS) + mark(s.tbon, B_RUNS)
 }
 
-// The state that 32 words stand for. Callers have exactly so many, here and below.
+// The state that 256 words stand for. Callers have exactly so many, here and below.
 pub fn unpack(words: &[u16]) -> State
-    requires { ⌜ length (now words) ≡ 32 ⌝ }
+    requires { ⌜ length (now words) ≡ size ⌝ }
     ensures { λ r. ⌜ r ≡ unpacked (now (words .entry)) ⌝ }
 {
     let mut regs = [0u16; 16];
-    copy(&mut regs, 0, words);
-    let on = words[21];
+    copy(&mut regs, 0, &words[..16]);
+    let on = words[MARKS];
     State {
         regs,
-        ic: words[16],
-        sw: words[17],
-        mk: words[18],
-        pi: words[19],
-        ft: words[20],
-        enabled: marked(on, 1),
-        hold: marked(on, 2),
-        ta: words[22],
-        tb: words[23],
-        taon: marked(on, 4),
-        tbon: marked(on, 8),
-        count: 65536 * wide(words[24]) + wide(words[25]),
+        ic: words[IC],
+        sw: words[SW],
+        mk: words[MK],
+        pi: words[PI],
+        ft: words[FT],
+        enabled: marked(on, ENABLED),
+        hold: marked(on, HOLD),
+        ta: words[TIMER_A],
+        tb: words[TIMER_B],
+        taon: marked(on, A_RUNS),
+        tbon: marked(on, B_RUNS),
+        count: 65536 * wide(words[COUNTER]) + wide(words[COUNTER + 1]),
     }
 }
 
-// The 32 words of a state.
+// The 256 words of a state: nothing of what they held stays.
 pub fn pack(s: State, words: &mut [u16])
-    requires { ⌜ length (now words) ≡ 32 ⌝ }
+    requires { ⌜ length (now words) ≡ size ⌝ }
     ensures { λ _. ⌜ now (words .exit) ≡ packed s ⌝ }
 {
+    let mut all = [0u16; SIZE];
+    all[IC] = s.ic;
+    all[SW] = s.sw;
+    all[MK] = s.mk;
+    all[PI] = s.pi;
+    all[FT] = s.ft;
+    all[MARKS] = marks(s);
+    all[TIMER_A] = s.ta;
+    all[TIMER_B] = s.tb;
+    all[COUNTER] = (s.count / 65536) as u16;
+    all[COUNTER + 1] = (s.count % 65536) as u16;
     let regs = s.regs;
-    let high = (s.count / 65536) as u16;
-    let low = (s.count % 65536) as u16;
-    let others = [
-        s.ic,
-        s.sw,
-        s.mk,
-        s.pi,
-        s.ft,
-        marks(s),
-        s.ta,
-        s.tb,
-        high,
-        low,
-        0,
-        0,
-        0,
-        0,
-        0,
-        0,
-    ];
-    copy(words, 0, &regs);
-    copy(words, 16, &others);
+    copy(&mut all, 0, &regs);
+    copy(words, 0, &all);
 }

@@ -10,11 +10,11 @@ use Rattle.machine.proofs.Opened.{machinery}
 use Rattle.machine.proofs.Samples.{stateAt}
 use Rattle.machine.specs.State.{withMk, withPi, withFt, withEnabled, withTa, withTb, withTbOn, withCount}
 use Rattle.report.specs.Report.{digit, hex, leading, decimal}
-use Rattle.packed.specs.Packed.{marked, markAt, marksOf, unpacked, others, packed}
+use Rattle.packed.specs.Packed.{marks, marked, markAt, marksOf, withMarks, layout, unpacked, packed}
 use Rattle.vector.specs.declared.Line.{Line}
 use Rattle.vector.specs.declared.Line.the-variants.{Remark, Entry, Malformed}
 use Rattle.vector.specs.Lines.{digitOf, given, wordOf, sizeOf, limitOf, entryOf, lineOf}
-use Rattle.vector.specs.Fields.{withWord}
+use Rattle.vector.specs.Fields.{placeOf, withWord}
 use Rattle.vector.specs.Texts.{caseLine, timeLine, entryLine, numberedLine}
 
 abbrev s : State
@@ -26,7 +26,7 @@ unfolding digitOf given wordOf sizeOf limitOf entryOf lineOf
 lines = tt
 
 unfoldable texts : Unit {0}
-unfolding withWord marked markAt marksOf unpacked others packed digit hex leading decimal caseLine timeLine entryLine numberedLine
+unfolding placeOf withWord marks marked markAt marksOf withMarks layout unpacked packed digit hex leading decimal caseLine timeLine entryLine numberedLine
 texts = tt
 
 -- an entry's kind, number and word; 1 for a remark, 2 for neither
@@ -45,6 +45,8 @@ rows =
     ∷ some (set (5 ∷ 6 ∷ 7 ∷ []) 1 9) (5 ∷ 9 ∷ 7 ∷ []) (9 ∷ 6 ∷ 7 ∷ []) (5 ∷ 6 ∷ 9 ∷ [])
     -- set::state: PI set by the number of MK; SW set by the number of MK
     ∷ some (let t = withWord s 18 9 in t .sw ∷ t .mk ∷ t .pi ∷ []) (2 ∷ 9 ∷ 4 ∷ []) (2 ∷ 3 ∷ 9 ∷ []) (9 ∷ 3 ∷ 4 ∷ [])
+    -- set::state: the counter's high word set by the number of its low word; the counter left as it was
+    ∷ some (withWord s 25 9 .count ∷ []) (9 ∷ []) (589836 ∷ []) (12 ∷ [])
     -- text::case_line: number and answer exchanged; the newline left out
     ∷ some (caseLine 7 5)
     (99 ∷ 97 ∷ 115 ∷ 101 ∷ 32 ∷ 55 ∷ 32 ∷ 97 ∷ 110 ∷ 115 ∷ 119 ∷ 101 ∷ 114 ∷ 32 ∷ 53 ∷ 10 ∷ [])

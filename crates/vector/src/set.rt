@@ -1,7 +1,7 @@
-// What an entry sets: a word of the packed state by its number, or a word that is lent.
+// What an entry sets: a word of the state by its number, or a word that is lent.
 ghost use mathlib.Core.Path.{_≡_};
 ghost use lib.ListN.{set};
-ghost use Rattle.vector.specs.Fields.{withWord};
+ghost use Rattle.vector.specs.Fields.{placeOf, withWord};
 use machine::State;
 use packed::pack;
 use packed::unpack;
@@ -16,12 +16,23 @@ pub fn put(words: &mut [u16], number: u16, word: u16)
     }
 }
 
+// The packed word that the number of an entry names.
+fn place(number: u16) -> u16
+    ensures { λ r. ⌜ r ≡ placeOf number ⌝ }
+{
+    match number {
+        24 => 32,
+        25 => 33,
+        _ => number,
+    }
+}
+
 // A word of the state.
 pub fn state(s: State, number: u16, word: u16) -> State
     ensures { λ r. ⌜ r ≡ withWord s number word ⌝ }
 {
-    let mut words = [0u16; 32];
+    let mut words = [0u16; packed::SIZE];
     pack(s, &mut words);
-    put(&mut words, number, word);
+    put(&mut words, place(number), word);
     unpack(&words)
 }

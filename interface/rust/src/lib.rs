@@ -17,13 +17,15 @@
 #![deny(unsafe_code)]
 #![deny(missing_docs)]
 
+pub mod layout;
 mod library;
 mod refusal;
 mod state;
 
+pub use layout::{STATE_WORDS, VERSION};
 pub use library::{load_words, run_words};
 pub use refusal::Refusal;
-pub use state::{State, STATE_WORDS};
+pub use state::State;
 
 /// Loads an image: resets the machine, then writes the bodies.
 pub fn load(

@@ -29,7 +29,7 @@ extern "C" {
     ) -> u32;
 }
 
-/// Loads an image on a packed state of 32 words (see [`State::pack`](crate::State::pack)).
+/// Loads an image on a packed state of [`STATE_WORDS`](crate::STATE_WORDS) words (see [`State::pack`](crate::State::pack)).
 #[allow(unsafe_code)]
 pub fn load_words(
     image: &[u8],
@@ -58,7 +58,7 @@ pub fn load_words(
     Refusal::check(answer)
 }
 
-/// Runs on a packed state of 32 words (see [`State::pack`](crate::State::pack)).
+/// Runs on a packed state of [`STATE_WORDS`](crate::STATE_WORDS) words (see [`State::pack`](crate::State::pack)).
 #[allow(unsafe_code)]
 pub fn run_words(
     budget: u32,

@@ -30,7 +30,7 @@ pub enum Refusal {
     SharedWord = 11,
     /// The bodies do not end the image.
     Bodies = 12,
-    /// The packed state is not exactly 32 words.
+    /// The packed state is not exactly 256 words.
     State = 100,
 }
 

@@ -1,13 +1,9 @@
-//! The state with named parts, and its packed form of 32 words.
+//! The state with named parts, and its packed form.
 
-/// The number of words of a packed state.
-pub const STATE_WORDS: usize = 32;
-
-/// The marks in word 21, by their weights.
-const ENABLED: u16 = 1;
-const HOLD: u16 = 2;
-const A_RUNS: u16 = 4;
-const B_RUNS: u16 = 8;
+use crate::layout::{
+    A_RUNS, B_RUNS, COUNTER_HIGH, COUNTER_LOW, ENABLED, FT, HOLD, IC, MARKS, MK, PI, STATE_WORDS,
+    SW, TIMER_A, TIMER_B,
+};
 
 /// The processor's state, without memory, page registers and ports.
 ///
@@ -49,7 +45,7 @@ impl State {
         State { a_runs: true, b_runs: true, ..State::default() }
     }
 
-    /// The state as the 32 words of the C interface.
+    /// The state as the words of the C interface; every word that no part has is 0.
     pub fn pack(&self) -> [u16; STATE_WORDS] {
         let marks = [
             (self.enabled, ENABLED),
@@ -59,33 +55,38 @@ impl State {
         ];
         let mut words = [0; STATE_WORDS];
         words[..16].copy_from_slice(&self.regs);
-        words[16..21].copy_from_slice(&[self.ic, self.sw, self.mk, self.pi, self.ft]);
-        words[21] = marks.iter().filter(|(on, _)| *on).map(|(_, weight)| weight).sum();
-        words[22] = self.timer_a;
-        words[23] = self.timer_b;
-        words[24] = (self.counter >> 16) as u16;
-        words[25] = (self.counter & 0xFFFF) as u16;
+        words[IC] = self.ic;
+        words[SW] = self.sw;
+        words[MK] = self.mk;
+        words[PI] = self.pi;
+        words[FT] = self.ft;
+        words[MARKS] = marks.iter().filter(|(on, _)| *on).map(|(_, weight)| weight).sum();
+        words[TIMER_A] = self.timer_a;
+        words[TIMER_B] = self.timer_b;
+        words[COUNTER_HIGH] = (self.counter >> 16) as u16;
+        words[COUNTER_LOW] = (self.counter & 0xFFFF) as u16;
         words
     }
 
-    /// The state of 32 words; words 26 to 31 and all bits of word 21 but the four marks are not looked at.
+    /// The state of packed words; words that no part has and bits that are no marks are not looked at.
     pub fn unpack(words: &[u16; STATE_WORDS]) -> State {
         let mut regs = [0; 16];
         regs.copy_from_slice(&words[..16]);
+        let marked = |weight| words[MARKS] & weight != 0;
         State {
             regs,
-            ic: words[16],
-            sw: words[17],
-            mk: words[18],
-            pi: words[19],
-            ft: words[20],
-            enabled: words[21] & ENABLED != 0,
-            hold: words[21] & HOLD != 0,
-            timer_a: words[22],
-            timer_b: words[23],
-            a_runs: words[21] & A_RUNS != 0,
-            b_runs: words[21] & B_RUNS != 0,
-            counter: u32::from(words[24]) << 16 | u32::from(words[25]),
+            ic: words[IC],
+            sw: words[SW],
+            mk: words[MK],
+            pi: words[PI],
+            ft: words[FT],
+            enabled: marked(ENABLED),
+            hold: marked(HOLD),
+            timer_a: words[TIMER_A],
+            timer_b: words[TIMER_B],
+            a_runs: marked(A_RUNS),
+            b_runs: marked(B_RUNS),
+            counter: u32::from(words[COUNTER_HIGH]) << 16 | u32::from(words[COUNTER_LOW]),
         }
     }
 }

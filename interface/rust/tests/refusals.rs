@@ -3,7 +3,8 @@
 mod common;
 
 use common::{image, Machine};
-use twin1750::{load, run, Refusal, State};
+use twin1750::layout::{COUNTER_HIGH, COUNTER_LOW};
+use twin1750::{load, run, Refusal, State, STATE_WORDS};
 
 type Call = fn(&mut Machine) -> Result<(), Refusal>;
 
@@ -27,24 +28,24 @@ fn both_refused(machine: Machine, number: u32) {
 
 #[test]
 fn lengths() {
-    for words in [0, 1, 31, 33, 64] {
+    for words in [0, 1, 32, 255, 257, 512] {
         both_refused(Machine::sized(words, 4096, 512, 1024), 100);
     }
     for memory in [0, 1, 4095, 4097, 1_048_575, 1_052_672] {
-        both_refused(Machine::sized(32, memory, 512, 1024), 1);
+        both_refused(Machine::sized(STATE_WORDS, memory, 512, 1024), 1);
     }
     for pages in [0, 511, 513] {
-        both_refused(Machine::sized(32, 4096, pages, 1024), 2);
+        both_refused(Machine::sized(STATE_WORDS, 4096, pages, 1024), 2);
     }
     for ports in [0, 1023, 1025] {
-        both_refused(Machine::sized(32, 4096, 512, ports), 3);
+        both_refused(Machine::sized(STATE_WORDS, 4096, 512, ports), 3);
     }
 }
 
 #[test]
 fn lengths_that_are_taken() {
     for memory in [4096, 8192, 1_048_576] {
-        let mut machine = Machine::sized(32, memory, 512, 1024);
+        let mut machine = Machine::sized(STATE_WORDS, memory, 512, 1024);
         assert_eq!(machine.load(&image(&[], &[])), Ok(()));
         assert_eq!(machine.run(1), Ok(()));
     }
@@ -53,8 +54,8 @@ fn lengths_that_are_taken() {
 /// A machine whose counter holds a number.
 fn counted(counter: u32) -> Machine {
     let mut machine = Machine::new();
-    machine.words[24] = (counter >> 16) as u16;
-    machine.words[25] = counter as u16;
+    machine.words[COUNTER_HIGH] = (counter >> 16) as u16;
+    machine.words[COUNTER_LOW] = counter as u16;
     machine
 }
 
@@ -94,10 +95,10 @@ fn images() {
 #[test]
 fn order() {
     let wrong: [(Machine, u32); 4] = [
-        (Machine::sized(31, 1, 1, 1), 100),
-        (Machine::sized(32, 1, 1, 1), 1),
-        (Machine::sized(32, 4096, 1, 1), 2),
-        (Machine::sized(32, 4096, 512, 1), 3),
+        (Machine::sized(255, 1, 1, 1), 100),
+        (Machine::sized(STATE_WORDS, 1, 1, 1), 1),
+        (Machine::sized(STATE_WORDS, 4096, 1, 1), 2),
+        (Machine::sized(STATE_WORDS, 4096, 512, 1), 3),
     ];
     for (machine, number) in wrong {
         refused(machine.clone(), |m| m.load(&[]), number);

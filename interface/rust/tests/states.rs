@@ -3,6 +3,7 @@
 mod common;
 
 use common::{image, Machine};
+use twin1750::layout::{COUNTER_HIGH, COUNTER_LOW, MARKS, TIMER_B};
 use twin1750::{load, run, State};
 
 #[test]
@@ -48,11 +49,13 @@ fn various() -> State {
 
 #[test]
 fn packed_words() {
-    let mut words: Vec<u16> = (0x100..0x110).collect();
-    words.extend([
-        0x2001, 0x2002, 0x2003, 0x2004, 0x2005, 0, 0x2006, 0x2007, 0x2008, 0x2009, 0, 0, 0, 0, 0, 0,
+    let mut words = [0; 256];
+    words[..24].copy_from_slice(&[
+        0x100, 0x101, 0x102, 0x103, 0x104, 0x105, 0x106, 0x107, 0x108, 0x109, 0x10A, 0x10B, 0x10C,
+        0x10D, 0x10E, 0x10F, 0x2001, 0x2002, 0x2003, 0x2004, 0x2005, 0, 0x2006, 0x2007,
     ]);
-    assert_eq!(various().pack()[..], words);
+    words[32..34].copy_from_slice(&[0x2008, 0x2009]);
+    assert_eq!(various().pack(), words);
     assert_eq!(State::unpack(&various().pack()), various());
 }
 
@@ -65,7 +68,7 @@ fn packed_marks() {
         (State { b_runs: true, ..various() }, 8),
     ];
     for (state, word) in marks {
-        assert_eq!(state.pack()[21], word);
+        assert_eq!(state.pack()[MARKS], word);
         assert_eq!(State::unpack(&state.pack()), state);
     }
 }
@@ -75,12 +78,13 @@ fn packed_marks() {
 fn run_of_no_steps() {
     for marks in 0..16 {
         let mut machine = Machine::new();
-        machine.words[21] = 0xBAB0 + marks;
+        machine.words[MARKS] = 0xBAB0 + marks;
         let before = machine.clone();
         assert_eq!(machine.run(0), Ok(()));
         let mut words = before.state();
         words[21] = marks;
-        words[26..].fill(0);
+        words[24..32].fill(0);
+        words[34..].fill(0);
         assert_eq!(machine, Machine { words: words.to_vec(), ..before.clone() });
         assert_eq!(State::unpack(&before.state()).pack(), words);
     }
@@ -93,7 +97,8 @@ fn loaded_words() {
     let mut machine = Machine::new();
     assert_eq!(machine.load(&image(&[(3, 0, 16), (4, 0, 5)], &bodies)), Ok(()));
     assert_eq!(machine.words[..21], bodies);
-    assert_eq!(machine.words[21..], [12, 0, 0, 0, 0, 0, 0, 0, 0, 0, 0]);
+    assert_eq!(machine.words[21], 12);
+    assert!(machine.words[22..].iter().all(|word| *word == 0));
 }
 
 /// An image without entries leaves the reset state; it differs from the default in the timers, which run.
@@ -122,8 +127,8 @@ fn marks_of_commands() {
     let after = [[8, 0, 0], [0, 0, 0], [3, 0, 0], [0, 0, 0], [4, 0xABCE, 0], [12, 0xABCF, 0xABCD]];
     for (step, parts) in after.into_iter().enumerate() {
         assert_eq!(machine.run(1), Ok(()));
-        assert_eq!(machine.words[21..24], parts, "after step {}", step + 1);
-        assert_eq!(machine.words[24..26], [0, step as u16 + 1]);
+        assert_eq!(machine.words[MARKS..=TIMER_B], parts, "after step {}", step + 1);
+        assert_eq!(machine.words[COUNTER_HIGH..=COUNTER_LOW], [0, step as u16 + 1]);
     }
 }
 
@@ -132,7 +137,7 @@ fn marks_of_commands() {
 fn counter_words() {
     let mut machine = Machine::new();
     assert_eq!(machine.load(&image(&[(1, 0, 1)], &[0x7400])), Ok(()));
-    machine.words[24..26].copy_from_slice(&[0x0012, 0xFFFF]);
+    machine.words[COUNTER_HIGH..=COUNTER_LOW].copy_from_slice(&[0x0012, 0xFFFF]);
     assert_eq!(machine.run(1), Ok(()));
-    assert_eq!(machine.words[24..26], [0x0013, 0x0000]);
+    assert_eq!(machine.words[COUNTER_HIGH..=COUNTER_LOW], [0x0013, 0x0000]);
 }

@@ -1,16 +1,17 @@
--- Written by tools/prove.py from answers/packed.py: answer 6662efc27ae3, proof a550c8fc5ab6.
+-- Written by tools/prove.py from answers/packed.py: answer aea943f68d7d, proof c177d8bf2fda.
 -- `packed::copy` meets its contract. Assumes nothing.
 use Prim.Native.Nat.{_-_}
 use Rattle.packed.proofs.PackLaws.{Copied, copied-none, copied-more, copied-all}
 use Rattle.packed.proofs.copy.Statement.{statement}
 use Rattle.packed.proofs.copy.Tie as tie
+use lib.ListN.{length}
 use native.Mathlib.Omega.{arith}
 
 abbrev Inv-loop : tie.InvT-loop
 Inv-loop to₀ at from i₀ to i = Copied to₀ at from to i
 
 abbrev μ-loop : tie.MeasureT-loop
-μ-loop to₀ at from i₀ to i = 16 - i
+μ-loop to₀ at from i₀ to i = length from - i
 
 loop-holds : tie.Need-loop-holds Inv-loop μ-loop
 loop-holds c = copied-none _ _ _
@@ -37,7 +38,7 @@ loop-less : tie.Need-loop-less Inv-loop μ-loop
 loop-less c = omega arith
 
 loop-again : tie.Need-loop-again Inv-loop μ-loop
-loop-again c = copied-more (c .before .before .loop .inv) (c .before .before .before .pre .0) (c .before .before .before .pre .1) (c .before .loop-test .taken)
+loop-again c = copied-more (c .before .before .loop .inv) (c .before .before .before .pre) (c .before .loop-test .taken)
 
 same-length : tie.Need-same-length Inv-loop μ-loop
 same-length c = c .before .loop .inv .same

@@ -1,6 +1,6 @@
 //! A machine for the tests, and images.
 
-use twin1750::{load_words, run_words, Refusal};
+use twin1750::{load_words, run_words, Refusal, STATE_WORDS};
 
 /// A machine with a packed state; every word holds something, so that a change is seen.
 #[derive(Clone, Debug, PartialEq)]
@@ -25,7 +25,7 @@ impl Machine {
 
     /// One of the right sizes.
     pub fn new() -> Machine {
-        Machine::sized(32, 4096, 512, 1024)
+        Machine::sized(STATE_WORDS, 4096, 512, 1024)
     }
 
     pub fn load(&mut self, image: &[u8]) -> Result<(), Refusal> {
@@ -37,8 +37,8 @@ impl Machine {
     }
 
     /// The packed state as an array.
-    pub fn state(&self) -> [u16; 32] {
-        self.words[..].try_into().expect("32 words")
+    pub fn state(&self) -> [u16; STATE_WORDS] {
+        self.words[..].try_into().expect("as many words")
     }
 }
 
