@@ -16,8 +16,9 @@ MODES = 'Rattle.access.proofs.ModeLaws.{mode-is, indexed-modes, no-mode
 
 
 # the mode of a form that is in the range of mode m
-def mode(m):
-    return 'mode-is (@args .form) %d (omega arith) (omega arith)' % m
+def mode(m, *facts):
+    known = ''.join(', ' + fact for fact in facts)
+    return 'mode-is (@args .form) %d (omega (arith%s)) (omega (arith%s))' % (m, known, known)
 
 
 A = {
@@ -37,14 +38,15 @@ A = {
     'addressing/immediate': table('isImmediate', 'mode', '4 5 8 9', False),
     'addressing/based': table('isBased', 'mode', '2 3', False),
     'addressing/base_accumulator': table('baseAccumulator', 'operation', '39 48 60 68 74 79 94', True),
+    'addressing/derive_short': bare(ADDRESSING + ' derivedFrom', SPANS + ' wrapped', then=[OMEGA, MODES],
+        returns='λ ic second. rw (%s, ← @base-of .ensures, ← @get .ensures, ← @displacement-of .ensures) (@wrapping-add-u16 .ensures)' % mode(2, '@Start .pre .0'),
+        returns_2='λ ic second. rw (%s, ← @field-b .ensures .0, ← @base-of2 .ensures, ← @get2 .ensures) (@index-by .ensures)' % mode(3),
+        returns_3='λ ic second. rw (%s, ← @field-b2 .ensures .0) refl' % mode(4), returns_4='λ ic second. rw (%s, ← @field-b3 .ensures .0) refl' % mode(5, '@Start .pre .1')),
     'addressing/derive': bare(ADDRESSING + ' derivedFrom', SPANS + ' wrapped', then=[OMEGA, 'mathlib.Core.Logic.{inl, inr}', MODES],
-        returns='rw (%s, ← @base-of .ensures, ← @get .ensures, ← @displacement-of .ensures) (@wrapping-add-u16 .ensures)' % mode(2),
-        returns_2='rw (%s, ← @field-b .ensures .0, ← @base-of2 .ensures, ← @get2 .ensures) (@index-by .ensures)' % mode(3),
-        returns_3='rw (%s, ← @field-b2 .ensures .0) refl' % mode(4), returns_4='rw (%s, ← @field-b3 .ensures .0) refl' % mode(5),
-        returns_5='(rw (← @field-b4 .ensures .0) (@index-by2 .ensures)) ∙ indexed-modes (@args .form) _ (@args .ic) _ _ (@if5 .left) (@if6 .taken)',
-        returns_6='rw (%s) refl' % mode(9), returns_7='rw (%s, ← @signed-displacement .ensures) (@wrapping-add-u162 .ensures)' % mode(10),
-        returns_8='no-modes (@args .form) _ (@args .ic) _ _ (inl (omega (arith, @if1 .taken)))',
-        returns_9='no-modes (@args .form) _ (@args .ic) _ _ (inr (omega (arith, @if8 .left)))'),
+        returns='no-modes (@args .form) _ (@args .ic) _ _ (inl (omega (arith, @if1 .taken)))', returns_2='@derive-short .ensures (@args .ic) (@args .second)',
+        returns_3='(rw (← @field-b .ensures .0) (@index-by .ensures)) ∙ indexed-modes (@args .form) _ (@args .ic) _ _ (@if2 .left) (@if3 .taken)',
+        returns_4='rw (%s) refl' % mode(9), returns_5='rw (%s, ← @signed-displacement .ensures) (@wrapping-add-u16 .ensures)' % mode(10),
+        returns_6='no-modes (@args .form) _ (@args .ic) _ _ (inr (omega (arith, @if5 .left)))'),
     'addressing/operand_word': bare(ADDRESSING + ' operandWord isRegister', then=[COMPARISONS],
         returns='rw (eq-eqb _ _ (@if1 .taken), ← @field-b .ensures .0) (@get .ensures)', returns_2='rw (ne-eqb _ _ (@if1 .left))'),
     'addressing/operand_of': bare(ADDRESSING + ' operand', returns='rw (← @immediate .ensures, @if1 .taken)',

@@ -1,6 +1,6 @@
 // The derived address of each addressing mode before indirection, and the derived operand (4.3, table V).
 ghost use mathlib.Core.Path.{_≡_};
-ghost use Prim.Native.Nat.{_<_};
+ghost use Prim.Native.Nat.{ℕ, _%_, _<_, _≤_};
 ghost use Rattle.decode.specs.Forms.{modeOf};
 ghost use Rattle.isa.specs.Addressing.{derivedFrom, isImmediate, isBased, operandWord, operand, doubleOperand, baseAccumulator, accumulator};
 use crate::fields::base_of;
@@ -14,27 +14,39 @@ use decode::mode;
 use machine::Instruction;
 use std::num::wrapping_add_u16;
 
-// The address of a form before indirection, or its immediate operand: by the ranges of the form number, each an addressing mode with all its operations. The
-// form's first digit, its length in words, is left aside.
-pub fn derive(form: u16, regs: &[u16; 16], ic: u16, first: u16, second: u16) -> u16
-    ensures { λ r. ⌜ r ≡ derivedFrom (modeOf form) (now (regs .entry)) ic first second ⌝ }
+// The short forms, whose address or operand is made of the first word: by the ranges of the form number, its length in words left aside.
+fn derive_short(form: u16, regs: &[u16; 16], first: u16) -> u16
+    requires { ⌜ (0x0200 ≤ form % 4096) × (form % 4096 < 0x0600) ⌝ }
+    ensures { λ r. ⌜ ((ic second : ℕ) → r ≡ derivedFrom (modeOf form) (now (regs .entry)) ic first second) ⌝ }
 {
     match form % 4096 {
-        // base relative
-        0x0200..=0x02FF => wrapping_add_u16(get(regs, base_of(first)), displacement_of(first)),
+        // base relative, from 0x0200 on
+        0..=0x02FF => wrapping_add_u16(get(regs, base_of(first)), displacement_of(first)),
         // base relative-indexed
         0x0300..=0x03FF => index_by(regs, field_b(first), get(regs, base_of(first))),
         // immediate short positive
         0x0400..=0x04FF => field_b(first) + 1,
         // immediate short negative
-        0x0500..=0x05FF => 65535 - field_b(first),
+        _ => 65535 - field_b(first),
+    }
+}
+
+// The address of a form before indirection, or its immediate operand: by the ranges of the form number, its length in words left aside. Each range is that of
+// an addressing mode with all its operations, or of several. A match tests its ranges upwards, so the short forms, which are rarer, are one range here.
+pub fn derive(form: u16, regs: &[u16; 16], ic: u16, first: u16, second: u16) -> u16
+    ensures { λ r. ⌜ r ≡ derivedFrom (modeOf form) (now (regs .entry)) ic first second ⌝ }
+{
+    match form % 4096 {
+        // special, register direct
+        0..=0x01FF => 0,
+        // base relative, base relative-indexed, immediate short
+        0x0200..=0x05FF => derive_short(form, regs, first),
         // memory direct, memory indirect, immediate long, each indexed or not
         0x0600..=0x08FF => index_by(regs, field_b(first), second),
         // immediate long with an opcode extension
         0x0900..=0x09FF => second,
         // instruction counter relative
         0x0A00..=0x0AFF => wrapping_add_u16(ic, signed_displacement(first)),
-        // special, register direct
         _ => 0,
     }
 }
