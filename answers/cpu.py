@@ -31,10 +31,10 @@ A = {
         'same-length': '@loop .inv .0', 'same-length-2': '@loop .inv .1', 'same-length-3': '@loop .inv .2',
         'returns': 'let l = @loop in machine-became (sym (l .inv .3 ∙ steps-none mil1750 (l .due) (machine (joined (l .t) (l .regs)) (l .memory) (l .pages) (l .ports)) (@loop-test .left)))'},
     'run/run': {
-        'use': [EQUATIONS, MACHINE + '{machine, Became}', RUNS + '{run, numberOf, answerOf}', ISA + '{mil1750}', 'Rattle.cpu.proofs.AskLaws.{admitted}',
+        'use': [EQUATIONS, MACHINE + '{machine, Became}', RUNS + '{runOf, numberOf, answerOf}', ISA + '{mil1750}', 'Rattle.cpu.proofs.AskLaws.{admitted}',
                 'Rattle.machine.proofs.RunLaws.{spent-left, refused-left}', BECAME],
         'unf': {'*': 'answerOf'},
         'run-steps-requires': '(admitted _ _ _ _ _ %s .0, admitted _ _ _ _ _ %s .1, @table .ensures)' % (SPENT, SPENT),
-        'returns': '(@ask .ensures, rw (spent-left mil1750 %s (run (@args .budget)) %s, @join .ensures, ← @part .ensures) (@run-steps .ensures))' % (GIVEN, SPENT),
-        'returns-2': '(@ask .ensures, machine-became (sym (refused-left mil1750 %s (run (@args .budget)) (λ e. @if1 .left (@number .ensures ∙ ap numberOf (@ask .ensures) ∙ e)))))' % GIVEN},
+        'returns': '(@ask .ensures, rw (spent-left mil1750 %s (runOf (@args .budget)) %s, @join .ensures, ← @part .ensures) (@run-steps .ensures))' % (GIVEN, SPENT),
+        'returns-2': '(@ask .ensures, machine-became (sym (refused-left mil1750 %s (runOf (@args .budget)) (λ e. @if1 .left (@number .ensures ∙ ap numberOf (@ask .ensures) ∙ e)))))' % GIVEN},
 }

@@ -8,7 +8,7 @@ use lib.ListN.{length}
 use borrow.Author.Tests.{eq-eqb, ne-eqb}
 use Rattle.machine.specs.declared.State.{State}
 use Rattle.machine.specs.Machine.{Machine, Became}
-use Rattle.machine.specs.Runs.{run}
+use Rattle.machine.specs.Runs.{runOf}
 use Rattle.machine.proofs.RunLaws.{refused-left}
 use Rattle.isa.specs.Mil1750.{mil1750}
 use Rattle.image.specs.Image as image
@@ -55,4 +55,4 @@ module _ (w memory pages ports : List ℕ) where
   pub running-keeps : (budget : ℕ) → (running w memory pages ports budget .answer ≡ 0 → ⊥)
       → Replied (running w memory pages ports budget) (running w memory pages ports budget .answer) w memory pages ports
   unfolding running given sized
-  running-keeps budget = keeps w _ _ _ (refused-left mil1750 _ (run budget)) (eqb (length w) size)
+  running-keeps budget = keeps w _ _ _ (refused-left mil1750 _ (runOf budget)) (eqb (length w) size)

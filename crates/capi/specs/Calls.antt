@@ -6,7 +6,7 @@ use mathlib.Core.Path.{_≡_}
 use lib.Dec.{eqb}
 use lib.ListN.{length}
 use Rattle.machine.specs.Machine.{Machine, machine}
-use Rattle.machine.specs.Runs.{run, numberOf, answerOf, left}
+use Rattle.machine.specs.Runs.{runOf, numberOf, answerOf, left}
 use Rattle.isa.specs.Mil1750.{mil1750}
 use Rattle.image.specs.Image as image
 use Rattle.packed.specs.Packed.{size, unpacked, packed}
@@ -46,4 +46,4 @@ module _ (w memory pages ports : List ℕ) where
 
   -- a run
   unfoldable pub running : ℕ → Reply
-  running budget = sized w given (reply (numberOf (answerOf given (run budget))) w (left mil1750 given (run budget)))
+  running budget = sized w given (reply (numberOf (answerOf given (runOf budget))) w (left mil1750 given (runOf budget)))

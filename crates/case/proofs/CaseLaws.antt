@@ -12,7 +12,7 @@ use lib.Seq.{take-all, take-length, drop-length}
 use Rattle.machine.specs.declared.State.{State}
 use Rattle.machine.specs.declared.Answer.{Answer}
 use Rattle.machine.specs.Machine.{Machine, machine, Became}
-use Rattle.machine.specs.Runs.{run, numberOf, answerOf, stepsOf, made, left}
+use Rattle.machine.specs.Runs.{runOf, numberOf, answerOf, stepsOf, made, left}
 use Rattle.machine.proofs.MachineLaws.{became-machine}
 use Rattle.isa.specs.Mil1750.{mil1750}
 use Rattle.reset.specs.Reset.{resetMachine}
@@ -53,14 +53,14 @@ module _ (s : State) (m g o : List ℕ) (l : Lengths) (b i j k : ℕ)
   unfolding lent
   part-is = rw (first-words _ _ _ memory, first-words _ _ _ pages, first-words _ _ _ ports) refl
 
-  pub answer-is : {a : Answer} → a ≡ answerOf (machine s (take i m) (take j g) (take k o)) (run b) → a ≡ answerOf (lent (case (machine s m g o) l)) (run b)
-  answer-is e = e ∙ ap (λ x. answerOf x (run b)) part-is
+  pub answer-is : {a : Answer} → a ≡ answerOf (machine s (take i m) (take j g) (take k o)) (runOf b) → a ≡ answerOf (lent (case (machine s m g o) l)) (runOf b)
+  answer-is e = e ∙ ap (λ x. answerOf x (runOf b)) part-is
 
-  pub ran-is : {s' : State} {m' g' o' : List ℕ} → Became (left mil1750 (machine s (take i m) (take j g) (take k o)) (run b)) s' m' g' o'
+  pub ran-is : {s' : State} {m' g' o' : List ℕ} → Became (left mil1750 (machine s (take i m) (take j g) (take k o)) (runOf b)) s' m' g' o'
       → Became (ran (case (machine s m g o) l) b) s' (m' ++ drop i m) (g' ++ drop j g) (o' ++ drop k o)
   unfolding ran rejoined
   ran-is h =
-      let y = ap (λ x. left mil1750 x (run b)) part-is in
+      let y = ap (λ x. left mil1750 x (runOf b)) part-is in
       record {
         state-is = h .state-is ∙ ap (λ z. z .state) y;
         memory-is = rw (h .memory-is, other-words _ _ _ memory) (ap (λ z. z .memory ++ drop (l .memory) m) y);
@@ -69,7 +69,7 @@ module _ (s : State) (m g o : List ℕ) (l : Lengths) (b i j k : ℕ)
       }
 
 -- the text of a case, from the parts of what its run hands back and leaves
-pub text-is : (n b : ℕ) (c : Case) {a : Answer} {k j : ℕ} {s : State} {m g o : List ℕ} → a ≡ answerOf (lent c) (run b) → k ≡ numberOf a → j ≡ cond (eqb k 0) b 0
+pub text-is : (n b : ℕ) (c : Case) {a : Answer} {k j : ℕ} {s : State} {m g o : List ℕ} → a ≡ answerOf (lent c) (runOf b) → k ≡ numberOf a → j ≡ cond (eqb k 0) b 0
     → Became (ran c b) s m g o
     → stateLines n k j s ++ (changes 77 (c .before .memory) m ++ (changes 80 (c .before .pages) g ++ changes 79 (c .before .ports) o)) ≡ caseText n b c
 unfolding caseText made stepsOf

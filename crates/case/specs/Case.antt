@@ -6,7 +6,7 @@ use lib.Dec.{eqb}
 use lib.ListN.{length, getD, set, take, drop}
 use Rattle.machine.specs.declared.State.{State}
 use Rattle.machine.specs.Machine.{Machine, machine}
-use Rattle.machine.specs.Runs.{run, numberOf, answerOf, made, left}
+use Rattle.machine.specs.Runs.{runOf, numberOf, answerOf, made, left}
 use Rattle.isa.specs.Mil1750.{mil1750}
 use Rattle.reset.specs.Reset.{resetMachine}
 use Rattle.report.specs.Report.{reportOf}
@@ -65,7 +65,7 @@ rejoined c y =
     machine (y .state) (y .memory ++ drop (c .lengths .memory) (x .memory)) (y .pages ++ drop (c .lengths .pages) (x .pages)) (y .ports ++ drop (c .lengths .ports) (x .ports))
 
 unfoldable pub ran : Case → ℕ → Machine
-ran c b = rejoined c (left mil1750 (lent c) (run b))
+ran c b = rejoined c (left mil1750 (lent c) (runOf b))
 
 -- ---- the text of what comes of it
 
@@ -91,7 +91,7 @@ unfoldable pub caseText : ℕ → ℕ → Case → List ℕ
 caseText n b c =
     let x = c .before in
     let y = ran c b in
-    stateLines n (numberOf (answerOf (lent c) (run b))) (made (lent c) (run b)) (y .state)
+    stateLines n (numberOf (answerOf (lent c) (runOf b))) (made (lent c) (runOf b)) (y .state)
     ++ (changes 77 (x .memory) (y .memory)
     ++ (changes 80 (x .pages) (y .pages)
     ++ changes 79 (x .ports) (y .ports)))

@@ -4,7 +4,7 @@ ghost use mathlib.Core.Bool.{cond};
 ghost use Prim.Native.Nat.{_≤_, min};
 ghost use lib.Dec.{eqb};
 ghost use Rattle.machine.specs.Machine.{machine, Became};
-ghost use Rattle.machine.specs.Runs.{run, answerOf};
+ghost use Rattle.machine.specs.Runs.{runOf, answerOf};
 ghost use Rattle.case.specs.Case.{case, lent, ran};
 ghost use Rattle.case.specs.Session.{sessionOf, onRun, Turned};
 use crate::Lengths;
@@ -46,7 +46,7 @@ fn run_part(
     pages: &mut [u16],
     ports: &mut [u16],
 ) -> Ran
-    ensures { λ r. ⌜ (r .answer ≡ answerOf (lent (case (machine state (now (memory .entry)) (now (pages .entry)) (now (ports .entry))) lengths)) (run steps))
+    ensures { λ r. ⌜ (r .answer ≡ answerOf (lent (case (machine state (now (memory .entry)) (now (pages .entry)) (now (ports .entry))) lengths)) (runOf steps))
         × Became (ran (case (machine state (now (memory .entry)) (now (pages .entry)) (now (ports .entry))) lengths) steps)
         (r .state) (now (memory .exit)) (now (pages .exit)) (now (ports .exit)) ⌝ }
 {

@@ -37,8 +37,8 @@ EachEnsured x [] = Unit {0}
 EachEnsured x (c ∷ cs) = Ensured x c × EachEnsured (resulting c) cs
 
 -- their runs and their answers
-abbrev pub runs : List Call → List Run
-runs cs = map (λ c. c .run) cs
+abbrev pub runsOf : List Call → List Run
+runsOf cs = map (λ c. c .run) cs
 
 abbrev pub replies : List Call → List Answer
 replies cs = map (λ c. c .answer) cs
@@ -55,7 +55,7 @@ final x (c ∷ cs) = final (resulting c) cs
 
 -- how many are before the one in which the first entry occurs, all of them where there is none; and these calls
 abbrev pub callsBefore : Machine → List Call → ℕ
-callsBefore x cs = length (beforeEntry mil1750 (runs cs) x)
+callsBefore x cs = length (beforeEntry mil1750 (runsOf cs) x)
 
 abbrev pub unentered : Machine → List Call → List Call
 unentered x cs = take (callsBefore x cs) cs
@@ -70,14 +70,14 @@ pub record CallsFound (x y : Machine) (cs ds : List Call) : Type 0 where
 -- with the same list of runs: field by field `Isolated`, of these calls
 pub record CallsIsolated (x y : Machine) (cs ds : List Call) : Type 0 where
   -- the first entry is at the same step of the list in both, or in neither
-  pub entry : firstEntry mil1750 (runs cs) x ≡ firstEntry mil1750 (runs ds) y
+  pub entry : firstEntry mil1750 (runsOf cs) x ≡ firstEntry mil1750 (runsOf ds) y
   -- where no entry occurs, the findings hold of all the calls
-  pub whole : firstEntry mil1750 (runs cs) x ≡ none → CallsFound x y cs ds
+  pub whole : firstEntry mil1750 (runsOf cs) x ≡ none → CallsFound x y cs ds
   -- where one occurs, it does so in the same call of both, and the findings hold of the calls before that one
   pub calls : callsBefore x cs ≡ callsBefore y ds
   pub before : CallsFound x y (unentered x cs) (unentered y ds)
 
 -- with unequal budgets: the same findings, answers aside
 pub record CallsIsolatedApart (x y : Machine) (cs ds : List Call) : Type 0 where
-  pub entry : firstEntry mil1750 (runs cs) x ≡ firstEntry mil1750 (runs ds) y
-  pub found : firstEntry mil1750 (runs cs) x ≡ none → Found x y (final x cs) (final y ds)
+  pub entry : firstEntry mil1750 (runsOf cs) x ≡ firstEntry mil1750 (runsOf ds) y
+  pub found : firstEntry mil1750 (runsOf cs) x ≡ none → Found x y (final x cs) (final y ds)

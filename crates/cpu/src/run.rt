@@ -3,7 +3,7 @@ ghost use mathlib.Core.Path.{_≡_};
 ghost use lib.ListN.{length};
 ghost use Rattle.machine.specs.State.{joined};
 ghost use Rattle.machine.specs.Machine.{Became, machine};
-ghost use Rattle.machine.specs.Runs.{run, numberOf, admission, answerOf, steps, left};
+ghost use Rattle.machine.specs.Runs.{runOf, numberOf, admission, answerOf, steps, left};
 ghost use Rattle.isa.specs.Mil1750.{mil1750};
 ghost use Rattle.needs.specs.Needs.{numbers};
 use machine::Answer;
@@ -127,8 +127,8 @@ pub fn run(
     ports: &mut [u16],
     budget: u32,
 ) -> Ran
-    ensures { λ r. ⌜ (r .answer ≡ answerOf (machine state (now (memory .entry)) (now (pages .entry)) (now (ports .entry))) (run budget))
-        × Became (left mil1750 (machine state (now (memory .entry)) (now (pages .entry)) (now (ports .entry))) (run budget))
+    ensures { λ r. ⌜ (r .answer ≡ answerOf (machine state (now (memory .entry)) (now (pages .entry)) (now (ports .entry))) (runOf budget))
+        × Became (left mil1750 (machine state (now (memory .entry)) (now (pages .entry)) (now (ports .entry))) (runOf budget))
         (r .state) (now (memory .exit)) (now (pages .exit)) (now (ports .exit)) ⌝ }
 {
     let answer = ask(memory.len(), pages.len(), ports.len(), state.count, budget);

@@ -15,7 +15,7 @@ use Rattle.page.specs.declared.Access.the-variants.{Fetch, Read}
 use Rattle.page.specs.Pages.{lockOf, frameOf, registerAt, admits, May, MaySee}
 use Rattle.machine.specs.Machine.{Machine, machine}
 use Rattle.machine.specs.State.{keyOf, groupOf}
-use Rattle.machine.specs.Runs.{run, numberOf, answerOf}
+use Rattle.machine.specs.Runs.{runOf, numberOf, answerOf}
 use Rattle.machine.specs.Isolation.{Compared}
 use Rattle.machine.proofs.Opened.{machinery}
 use Rattle.machine.proofs.Samples.{stateAt}
@@ -80,6 +80,6 @@ pub unnamed-differ : holding 0 0 ≢ holding 0 1
 unnamed-differ e = let z : _≡_ {A = ℕ} 0 1 = ap (λ x. getD (x .memory) 8192 0) e in absurd (omega arith)
 
 -- and runs of them are not refused
-pub accepted : T (eqb (numberOf (answerOf (holding 0 0) (run 1000))) 0 && eqb (numberOf (answerOf (holding 1 1) (run 1000))) 0)
+pub accepted : T (eqb (numberOf (answerOf (holding 0 0) (runOf 1000))) 0 && eqb (numberOf (answerOf (holding 1 1) (runOf 1000))) 0)
 unfolding machinery
 accepted = tt

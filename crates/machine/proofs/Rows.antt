@@ -19,7 +19,7 @@ use Rattle.machine.specs.Machine.{Machine, machine, Isa, Effect, Supervi
 use Rattle.decode.specs.Forms.{operationOf}
 use Rattle.machine.specs.Entries.{chosen}
 use Rattle.machine.specs.Step.{ticked, step}
-use Rattle.machine.specs.Runs.{run, numberOf, admission, answers, afterRuns, total, firstEntry, beforeEntry}
+use Rattle.machine.specs.Runs.{runOf, numberOf, admission, answers, afterRuns, total, firstEntry, beforeEntry}
 use Rattle.machine.proofs.Opened.{machinery}
 
 -- ---- a small instruction set: a word is its own form, and the second word is the address
@@ -104,7 +104,7 @@ right (asking memory pages ports count budget n) = eqb (numberOf (admission memo
 right (stepping s m ps places r) = let x = step small (machine s m (filled 512 0xF000 ps) (replicate 4 0)) in equal (shown places x) r && restRight (x .state)
 right (running s w bs r before) =
     let x = machine s (wordsAt 4096 ((0, w) ∷ [])) (replicate 512 0xF000) (replicate 1024 0) in
-    let rs = map run bs in
+    let rs = map runOf bs in
     equal (total small rs x ∷ stepOf (firstEntry small rs x) ∷ map numberOf (answers small rs x)) r
     && (equal (map (λ q. q .budget) (beforeEntry small rs x)) before && eqb (afterRuns small rs x .state .count) (s .count + total small rs x))
 

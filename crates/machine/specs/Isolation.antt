@@ -1,7 +1,8 @@
 -- Two machines compared (the Scope's section of that name; property 3): what is assumed of them, and what is found after a list of runs.
 -- Of the section's sentences, these are elsewhere: what a key may fetch, read or write, where a register missing from a short list lets nothing
--- through, is `May` of the crate `page`; an entry is `isEntry` in Step; that each run gets what the one before left, an answer, and the count of
--- steps over the whole list are `afterRuns`, `answers` and `firstEntry` in Runs. Assumes nothing.
+-- through, is `May` of the crate `page`; an entry is `isEntry` in Step; that each run gets what the one before left, and an
+-- answer, are `afterRuns` and `answers` in Runs; the steps over the whole list and the first entry are those of its timeline (`timeline`, `firstEntry` in Runs, `entryIn` in
+-- Timelines). Assumes nothing.
 use Prim.Native.Nat.{ℕ}
 use mathlib.Core.Path.{_≡_}
 use mathlib.Core.Logic.{_≢_}

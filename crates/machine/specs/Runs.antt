@@ -15,8 +15,8 @@ pub record Run : Type 0 where
   pub budget : ℕ
 
 -- the run of a budget
-abbrev pub run : ℕ → Run
-run budget = record { budget = budget }
+abbrev pub runOf : ℕ → Run
+runOf budget = record { budget = budget }
 
 -- ---- the checks before a run, in their order
 

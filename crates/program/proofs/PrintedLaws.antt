@@ -6,7 +6,7 @@ use lib.ListN.{length}
 use borrow.Author.Tests.{eq-eqb, ne-eqb, le-leb, lt-leb}
 use Rattle.machine.specs.declared.State.{State}
 use Rattle.machine.specs.Machine.{Machine, machine, Became}
-use Rattle.machine.specs.Runs.{run, left}
+use Rattle.machine.specs.Runs.{runOf, left}
 use Rattle.isa.specs.Mil1750.{mil1750}
 use Rattle.machine.proofs.MachineLaws.{became-machine}
 use Rattle.image.specs.declared.Loading.{Loading}
@@ -47,7 +47,7 @@ pub refused-left : (b : List ℕ) (x : Machine) (n : ℕ) → length b ≤ 32768
 unfolding afterwards lengthNumber
 refused-left b x n h e z = rw (le-leb _ _ h, ← e, ne-eqb _ _ z) refl
 
-pub accepted-left : (b : List ℕ) (x : Machine) (n : ℕ) → length b ≤ 32768 → n ≡ loadNumber b → n ≡ 0 → afterwards b x ≡ left mil1750 (started b) (run 1000)
+pub accepted-left : (b : List ℕ) (x : Machine) (n : ℕ) → length b ≤ 32768 → n ≡ loadNumber b → n ≡ 0 → afterwards b x ≡ left mil1750 (started b) (runOf 1000)
 unfolding afterwards lengthNumber
 accepted-left b x n h e z = rw (le-leb _ _ h, ← e, eq-eqb _ _ z) refl
 

@@ -6,7 +6,7 @@ use mathlib.Core.Path.{_≡_}
 use lib.Dec.{eqb, leb}
 use lib.ListN.{length}
 use Rattle.machine.specs.Machine.{Machine}
-use Rattle.machine.specs.Runs.{run, numberOf, answerOf, left}
+use Rattle.machine.specs.Runs.{runOf, numberOf, answerOf, left}
 use Rattle.isa.specs.Mil1750.{mil1750}
 use Rattle.reset.specs.Reset.{resetMachine}
 use Rattle.image.specs.Image.{countOf, withBodies, admission}
@@ -45,7 +45,7 @@ started b = withBodies b (countOf b) 0 (resetMachine memorySize pagesSize portsS
 
 -- the text after a run on the machine x
 unfoldable pub ranText : Machine → List ℕ
-ranText x = unless (numberOf (answerOf x (run budget))) (reportOf budget (left mil1750 x (run budget) .state))
+ranText x = unless (numberOf (answerOf x (runOf budget))) (reportOf budget (left mil1750 x (runOf budget) .state))
 
 -- the program: the length, the loader's questions, the run
 unfoldable pub printed : List ℕ → List ℕ
@@ -53,7 +53,7 @@ printed b = unless (lengthNumber b) (unless (loadNumber b) (ranText (started b))
 
 -- the machine after it, from the machine x that it holds: a refusal leaves that as it was
 unfoldable pub afterwards : List ℕ → Machine → Machine
-afterwards b x = cond (eqb (lengthNumber b) 0) (cond (eqb (loadNumber b) 0) (left mil1750 (started b) (run budget)) x) x
+afterwards b x = cond (eqb (lengthNumber b) 0) (cond (eqb (loadNumber b) 0) (left mil1750 (started b) (runOf budget)) x) x
 
 -- memory, page registers and ports are those of the machine x
 pub record Holds (x : Machine) (memory pages ports : List ℕ) : Type 0 where

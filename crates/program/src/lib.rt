@@ -2,7 +2,7 @@
 ghost use Rattle.report.specs.Report.{Text};
 ghost use Rattle.machine.specs.declared.State.{State};
 ghost use Rattle.machine.specs.Machine.{machine};
-ghost use Rattle.machine.specs.Runs.{run, left};
+ghost use Rattle.machine.specs.Runs.{runOf, left};
 ghost use Rattle.isa.specs.Mil1750.{mil1750};
 ghost use Rattle.program.specs.Printed.{printed, ranText, afterwards, Holds};
 use machine::State;
@@ -16,7 +16,7 @@ fn run_and_report(
     out: &mut [u8; 256],
 ) -> usize
     ensures { λ r. ⌜ Text (now (out .entry)) (ranText (machine s (now (memory .entry)) (now (pages .entry)) (now (ports .entry)))) (now (out .exit)) r
-        × Holds (left mil1750 (machine s (now (memory .entry)) (now (pages .entry)) (now (ports .entry))) (run 1000)) (now (memory .exit)) (now (pages .exit)) (now (ports .exit)) ⌝ }
+        × Holds (left mil1750 (machine s (now (memory .entry)) (now (pages .entry)) (now (ports .entry))) (runOf 1000)) (now (memory .exit)) (now (pages .exit)) (now (ports .exit)) ⌝ }
 {
     let ran = cpu::run::run(s, memory, pages, ports, 1000);
     let answer = ran.answer;

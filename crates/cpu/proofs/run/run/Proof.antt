@@ -1,4 +1,4 @@
--- Written by tools/prove.py from answers/cpu.py: answer 2b003b23a630, proof 3a9e9d059795.
+-- Written by tools/prove.py from answers/cpu.py: answer 7bddd1f2bc9f, proof 95f1a5358bfd.
 -- `cpu::run::run` meets its contract. Assumes nothing.
 use Rattle.cpu.proofs.AskLaws.{admitted}
 use Rattle.cpu.proofs.run.run.Statement.{statement}
@@ -7,7 +7,7 @@ use Rattle.isa.specs.Mil1750.{mil1750}
 use Rattle.machine.proofs.MachineLaws.{machine-became}
 use Rattle.machine.proofs.RunLaws.{spent-left, refused-left}
 use Rattle.machine.specs.Machine.{machine}
-use Rattle.machine.specs.Runs.{run, numberOf, answerOf}
+use Rattle.machine.specs.Runs.{runOf, numberOf, answerOf}
 use borrow.Author.Needs.{needs}
 use mathlib.Core.Path.{sym, ap, _∙_}
 
@@ -16,11 +16,11 @@ run-steps-requires c κs = (admitted _ _ _ _ _ (sym (c .before .before .before .
 
 returns : tie.Need-returns
 unfolding answerOf
-returns c = (c .before .before .before .before .before .before .before .before .before .before .before .before .before .before .before .before .before .before .ask .ensures, rw (spent-left mil1750 (machine (c .before .before .before .before .before .before .before .before .before .before .before .before .before .before .before .before .before .before .before .before .before .before .args .state) (c .before .before .before .before .before .before .before .before .before .before .before .before .before .before .before .before .before .before .before .before .before .before .args .memory .now) (c .before .before .before .before .before .before .before .before .before .before .before .before .before .before .before .before .before .before .before .before .before .before .args .pages .now) (c .before .before .before .before .before .before .before .before .before .before .before .before .before .before .before .before .before .before .before .before .before .before .args .ports .now)) (run (c .before .before .before .before .before .before .before .before .before .before .before .before .before .before .before .before .before .before .before .before .before .before .args .budget)) (sym (c .before .before .before .before .before .before .before .before .before .before .before .before .before .before .before .before .before .number .ensures ∙ ap numberOf (c .before .before .before .before .before .before .before .before .before .before .before .before .before .before .before .before .before .before .ask .ensures)) ∙ c .before .before .before .before .before .before .before .before .before .before .before .before .before .before .before .before .if1 .taken), c .join .ensures, ← c .before .before .before .before .before .before .before .before .before .before .before .before .before .part .ensures) (c .before .before .before .before .before .before .before .run-steps .ensures))
+returns c = (c .before .before .before .before .before .before .before .before .before .before .before .before .before .before .before .before .before .before .ask .ensures, rw (spent-left mil1750 (machine (c .before .before .before .before .before .before .before .before .before .before .before .before .before .before .before .before .before .before .before .before .before .before .args .state) (c .before .before .before .before .before .before .before .before .before .before .before .before .before .before .before .before .before .before .before .before .before .before .args .memory .now) (c .before .before .before .before .before .before .before .before .before .before .before .before .before .before .before .before .before .before .before .before .before .before .args .pages .now) (c .before .before .before .before .before .before .before .before .before .before .before .before .before .before .before .before .before .before .before .before .before .before .args .ports .now)) (runOf (c .before .before .before .before .before .before .before .before .before .before .before .before .before .before .before .before .before .before .before .before .before .before .args .budget)) (sym (c .before .before .before .before .before .before .before .before .before .before .before .before .before .before .before .before .before .number .ensures ∙ ap numberOf (c .before .before .before .before .before .before .before .before .before .before .before .before .before .before .before .before .before .before .ask .ensures)) ∙ c .before .before .before .before .before .before .before .before .before .before .before .before .before .before .before .before .if1 .taken), c .join .ensures, ← c .before .before .before .before .before .before .before .before .before .before .before .before .before .part .ensures) (c .before .before .before .before .before .before .before .run-steps .ensures))
 
 returns-2 : tie.Need-returns-2
 unfolding answerOf
-returns-2 c = (c .before .before .ask .ensures, machine-became (sym (refused-left mil1750 (machine (c .before .before .before .before .before .before .args .state) (c .before .before .before .before .before .before .args .memory .now) (c .before .before .before .before .before .before .args .pages .now) (c .before .before .before .before .before .before .args .ports .now)) (run (c .before .before .before .before .before .before .args .budget)) (λ e. c .if1 .left (c .before .number .ensures ∙ ap numberOf (c .before .before .ask .ensures) ∙ e)))))
+returns-2 c = (c .before .before .ask .ensures, machine-became (sym (refused-left mil1750 (machine (c .before .before .before .before .before .before .args .state) (c .before .before .before .before .before .before .args .memory .now) (c .before .before .before .before .before .before .args .pages .now) (c .before .before .before .before .before .before .args .ports .now)) (runOf (c .before .before .before .before .before .before .args .budget)) (λ e. c .if1 .left (c .before .number .ensures ∙ ap numberOf (c .before .before .ask .ensures) ∙ e)))))
 
 pub run-spec : {M : Type 1} → statement M
 run-spec =
