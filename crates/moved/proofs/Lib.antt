@@ -1,4 +1,3 @@
--- The laws of what an instruction comes to.
-pub mod MovedLaws
+-- The laws of the time, and of what becomes of the machine by an instruction.
+pub mod TimeLaws
 pub mod ActLaws
-pub mod Wrong
