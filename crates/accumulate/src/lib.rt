@@ -7,7 +7,7 @@ pub mod single;
 
 use machine::Core;
 
-// The core after an operation, where its accesses were clear; else the FT bit of the first refusal.
+// The core after an operation, where its accesses were clear; else the core as it was, and the FT bit of the first refusal.
 pub struct Ending {
     pub clear: bool,
     pub fault: u16,
