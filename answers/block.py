@@ -32,7 +32,7 @@ A = {
         returns_7='λ v e. ' + never('@Start .pre .2')),
     'block': by(STEP + ' stored', ISA + ' contextOf', use=[LENGTH, STATE + '{joined}', 'Rattle.page.proofs.SpanLaws.{words-read}', 'Rattle.page.proofs.EachLaws.{words-length}'],
         read_span_requires='(@Start .pre .0, @group-of .ensures .1, @Start .pre .3)', store_words_requires='(@Start .pre .0, @group-of .ensures .1, @Start .pre .1)', rearrange_requires='(@Start .pre .1, ap length (words-read _ _ _ _ _ _ _ _ refl (@read-span .ensures)) ∙ words-length _ _ _ _ _ _)',
-        returns='let w = words-read _ _ _ _ _ _ _ _ refl (@read-span .ensures) in record { state-is = rw (%s, ← @Start .pre .2, ← w) (@rearrange .ensures); memory-is = rw (%s, ← @Start .pre .2, ← w) (@store-words .ensures (contextOf (joined (@args .core) (@args .regs .now))) refl) }' % (OWN, OWN)),
+        returns='let w = words-read _ _ _ _ _ _ _ _ refl (@read-span .ensures) in record { processor-is = rw (%s, ← @Start .pre .2, ← w) (@rearrange .ensures); memory-is = rw (%s, ← @Start .pre .2, ← w) (@store-words .ensures (contextOf (joined (@args .core) (@args .regs .now))) refl) }' % (OWN, OWN)),
 }
 A['stores/store_words']['unf'].update({'returns' + need: 'writesOf wordsWritten' for need in ('', '-2', '-6')})
 A['stores/store_words']['unf'].update({'returns-4': 'writesOf executed storedAll rearranged', 'returns-5': 'writesOf executed pushedAll rearranged', 'returns-7': 'isBlock'})

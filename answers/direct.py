@@ -5,7 +5,7 @@ END_LAWS = 'Rattle.accumulate.proofs.EndLaws.'
 OF = '(@Start .pre .4)'
 KEYS = '_ _ (@Start .pre .1) (@Start .pre .2)'
 CONTEXT = '(contextOf %s)' % PLAIN
-STATE_AFTER = '(@%s .ensures .1 (@args .regs .now) %s (sym (@following .ensures)) (sym (@cs-of .ensures)) refl)'
+AFTER = '(@%s .ensures .1 (@args .regs .now) %s (sym (@following .ensures)) (sym (@cs-of .ensures)) refl)'
 
 
 # the words that a way writes, where it is known whether its operand is in memory
@@ -57,10 +57,10 @@ A = {
         'unf': {'*': 'contextOf effect stored following withRegisters'},
         'mul-memory': 'omega (arith, %s)' % inside('place'), 'slice-write-memory': inside('place'), 'write-count-requires': '@Start .pre .5',
         'returns': 'store-done %s _ _ %s _ _ _ (@place .given .1) refl (does-store (@args .n) %s _ _ ∙ ap (λ x. stored %s (@args .n) x 0 0) (sym (@word-stored .ensures))) (@done .ensures .0) %s' % (
-            ONE, STORED, OF, CONTEXT, STATE_AFTER % ('done', STORED)),
+            ONE, STORED, OF, CONTEXT, AFTER % ('done', STORED)),
         'returns-2': 'store-refused %s _ _ _ _ (@place2 .given .1) (@refused .ensures .0) (@refused .ensures .1) %s' % (ONE, unchanged('refused')),
         'returns-3': 'idle-done %s false %s %s _ _ _ (does-store (@args .n) %s _ _) (@done2 .ensures .0) %s' % (
-            STORE, written(3, 1, SEEN['left']), NOTHING, OF, STATE_AFTER % ('done2', NOTHING))},
+            STORE, written(3, 1, SEEN['left']), NOTHING, OF, AFTER % ('done2', NOTHING))},
     'store/store_two': {
         'use': [EQUATIONS, OMEGA, WAY_LAWS + '{way-user, way-reads, way-writes, way-stored, way-store, some-words, no-words, does-pair}', END_LAWS + '{pair-done, pair-refused, idle-done}',
                 'mathlib.Core.Bool.{false, cond}', STATE + '{joined}', ADDRESSING + '{inMemory}', FORMS + '{modeOf}', ISA + '{contextOf}', EFFECTS + '{effect, stored, following}', FIELDS + '{withRegisters, register}',
@@ -68,9 +68,9 @@ A = {
         'unf': {'*': 'contextOf effect stored following withRegisters wrapped andThen'},
         'put-two-requires': '(%s, %s)' % (inside('first'), inside('second', 'look-up2')), 'write-count-requires': '@Start .pre .5',
         'returns': 'idle-done %s false %s %s _ _ _ (does-pair (@args .n) %s _ _) (@done .ensures .0) %s' % (
-            PAIR, written(5, 2, UNSEEN['taken']), HELD, OF, STATE_AFTER % ('done', HELD)),
+            PAIR, written(5, 2, UNSEEN['taken']), HELD, OF, AFTER % ('done', HELD)),
         'returns-2': 'rw (@put-two .ensures) (pair-done %s _ _ _ _ %s _ _ _ (rw (%s) refl) (rw (%s) refl) refl (rw (@get .ensures, @get2 .ensures, @accumulator-of .ensures .0, '
-            '@accumulator-of2 .ensures .0) (does-pair (@args .n) %s _ _)) (@done2 .ensures .0) %s)' % (BOTH, GOT, AT_FIRST % '', AT_SECOND % '', OF, STATE_AFTER % ('done2', GOT)),
+            '@accumulator-of2 .ensures .0) (does-pair (@args .n) %s _ _)) (@done2 .ensures .0) %s)' % (BOTH, GOT, AT_FIRST % '', AT_SECOND % '', OF, AFTER % ('done2', GOT)),
         'returns-3': 'pair-refused %s _ _ _ _ (rw (%s, %s) refl) (@refused .ensures .0) (@refused .ensures .1) %s' % (BOTH, AT_FIRST % '', AT_SECOND % '2', unchanged('refused')),
         'returns-4': 'pair-refused %s _ _ _ _ (rw (%s) refl) (@refused2 .ensures .0) (@refused2 .ensures .1) %s' % (BOTH, AT_FIRST % '2', unchanged('refused2'))},
     'branch/is_taken': by(WAYS + ' isTaken', use=[TESTS], returns='rw (eq-eqb _ _ (@if1 .taken), ← @field-a .ensures .0) (@taken .ensures)',

@@ -22,5 +22,5 @@ A = {
         returns='λ v n l. (rw (linked-clear %s) refl, λ s m w a. rw (linked-clear %s, linked-stored %s s, m, w, a) refl)' % (LINKED, LINKED, LINKED),
         returns_2='@link-each .ensures'),
     'arrive': by(ENTRIES + ' arrived', STATE + ' withIc withSw withMk withPi withFt withEnabled',
-        returns='λ regs. rw (← @reset-bit .ensures, ← @machine-error .ensures) refl'),
+        returns='rw (← @reset-bit .ensures, ← @machine-error .ensures) refl'),
 }

@@ -15,7 +15,7 @@ A = importing({
         'loop-holds': '(refl, omega arith, omega arith, refl)', 'same-length': '@loop .inv .0',
         'loop-again': '(simp length-set (@loop .inv .0), omega arith, omega arith, @loop .inv .3 ∙ words-step _ _ _ _ _ _ (@loop-test .taken) (@word-at .ensures))',
         'returns': 'sym (@loop .inv .3 ∙ words-none _ _ _ _ _ (@loop-test .left))'},
-    'write_registers': {'unf': {'*': 'withRegs'},
+    'write_registers': {
         'write-words-requires': 'let l : 16 ≡ length (@args .s .regs) = slice-aggregate-write-words c in (omega (arith, @Start .pre .0), @Start .pre .1)',
         'returns': 'rw (@write-words .ensures) refl'},
     'write_control': {'unf': {'*': 'withIc withSw withMk withPi withFt controlOf withControl'}, 'returns': 'rw (← @write-words .ensures) refl'},
@@ -27,7 +27,7 @@ A = importing({
         'returns': 'λ ports. to-memory _ _ _ _ _ _ _ (@if1 .taken) _ (@write-words .ensures)',
         'returns-2': 'λ ports. to-pages _ _ _ _ _ _ _ (@if1 .left) (@if2 .taken) _ (@write-words2 .ensures)',
         'returns-3': 'λ ports. to-registers _ _ _ _ _ _ _ (@if1 .left) (@if2 .left) _ (@if3 .taken) (@write-registers .ensures)',
-        'returns-4': 'λ ports. to-control _ _ _ _ _ _ _ (@if1 .left) (@if2 .left) _ (@if3 .left) (@write-control .ensures)'},
+        'returns-4': 'λ ports. to-control _ _ _ _ _ _ _ (@if1 .left) (@if2 .left) (@if3 .left) _ (@write-control .ensures)'},
     'write_bodies': {'unf': {'loop-holds': 'tableEnd bodyAt wordsBefore'}, 'default': 'omega arith',
         'Inv-loop': '(k + left ≡ countOf image) × (at ≡ bodyAt image k) × (numberOf (entriesAnswer (length memory₀) image left k) ≡ 0) '
             '× (length memory ≡ length memory₀) × (length pages ≡ length pages₀) '
@@ -36,7 +36,7 @@ A = importing({
         'loop-holds': 'let e = @count .ensures .0 in (omega (arith, e), omega (arith, e), rw e (image-sound _ _ (@Start .pre .0) .entries), refl, refl, λ ports. rw e refl)',
         'entry-at-requires': 'table-inside _ _ (image-sound _ _ (@Start .pre .0)) _ _ (@loop .inv .0) (@loop-test .taken)',
         'write-body-requires': '(entries-within _ _ _ _ (@loop-test .taken) (@loop .inv .2) _ (@entry-at .ensures) _ (@loop .inv .3), @loop .inv .4 ∙ @Start .pre .1, %s)' % INSIDE,
-        'cast-at': 'search needs', 'mul-at-2': 'omega (arith, %s)' % INSIDE, 'add-at-2': 'omega (arith, %s)' % INSIDE,
+        'cast-at': 'search needs', 'mul-at-2': 'omega (arith, %s)' % INSIDE, 'add-at-2': 'omega (arith, @Start .good .1 .0 .0, %s)' % INSIDE,
         'loop-again': '(omega arith, body-next _ _ _ (@entry-at .ensures) _ (@loop .inv .1), entries-rest _ _ _ _ (@loop-test .taken) (@loop .inv .2), '
             '@write-body .kept .1 .1 .1 .1 .0 ∙ @loop .inv .3, @write-body .kept .1 .1 .1 .1 .1 .0 ∙ @loop .inv .4, '
             'λ ports. @loop .inv .5 ports ∙ bodies-step _ _ _ (@entry-at .ensures) _ (@loop .inv .1) _ _ (@loop-test .taken) ∙ ap (withBodies _ _ _) (sym (became-machine (@write-body .ensures ports))))',

@@ -11,7 +11,7 @@ SEEN = '(context (@args .regs .now) (@args .ic) (@args .sw) (@args .pi)) (@args 
 A = {
     'ordinary': by(use=[OMEGA, LAWS + '{in-range, past-all, jump-left, loads-left, stores-left, integers-left, logic-left}', FORMS + '{operationOf}', WORK + '{context}'],
         returns_22='@nothing .ensures (@args .regs .now) ∙ past-all %s 96 refl (omega arith)' % SEEN),
-    'work': by(STEP + ' affected stored', WORK + ' worked', ISA + ' contextOf', STATE + ' withPi withSw withIc withRegs', ordinary_requires='@Start .pre .2',
+    'work': by(STEP + ' affected stored', WORK + ' worked', ISA + ' contextOf', STATE + ' withPi withSw withIc', ordinary_requires='@Start .pre .2',
         returns='(rw (← @ordinary .ensures, ← @apply .ensures, ← @with-cs .ensures) refl, rw (← @ordinary .ensures) (@store-words .ensures))'),
 }
 

@@ -31,7 +31,7 @@ A = {
     'registers/move_on': by(BLOCKS + ' movedOn', returns='rw (← @raise .ensures, ← @raise2 .ensures) (@lower .ensures)'),
     'registers/exchange': by(
         returns='(rw (← @field-b .ensures .0, ← @get2 .ensures) (@status16 .ensures), rw (%s, ← @get .ensures, ← @get2 .ensures, ← @put .ensures) (@put2 .ensures))' % FIELDS_AB),
-    'operation/settle': by(STEP + ' affected', BLOCKS + ' rearranged', ISA + ' contextOf', STATE + ' withRegs withIc withSw withPi withCs', returns='λ regs after ws. refl'),
+    'operation/settle': by(STEP + ' affected', BLOCKS + ' rearranged', ISA + ' contextOf', STATE + ' withIc withSw withPi withCs', returns='λ regs after ws. refl'),
     'operation/proceed': by(EFFECTS + ' following', ISA + ' contextOf', returns='λ regs after ws. rw (← @following .ensures, ← @cs-of .ensures) (@settle .ensures regs after ws)'),
     'operation/load_multiple': then('load-all', 'loadedAll'),
     'operation/pop_multiple': then('pop-all', 'poppedAll'),

@@ -1,6 +1,7 @@
 # The answers from which the proofs of the crate `reset` are written.
 A = importing({
-    'Rattle.reset.specs.Reset': 'resetState cycle resetPages resetMachine',
+    'Rattle.machine.specs.State': 'resetState',
+    'Rattle.reset.specs.Reset': 'cycle resetPages resetMachine',
     'Rattle.reset.proofs.FillLaws': 'Filled filled-none filled-length filled-more filled-all zeros',
 }, {
     'fill': {'unf': {'*': 'cycle'}, 'default': 'omega (arith, filled-length _ _ _ _ (@loop .inv))',

@@ -14,7 +14,6 @@ LIMITS = 'borrow.Author.Tests.{lt-ltb, le-ltb}'
 COMPARISONS = 'borrow.Author.Tests.{eq-eqb, ne-eqb, lt-ltb, le-ltb, le-leb, lt-leb}'
 OTHERWISE = 'Rattle.choice.proofs.SelectLaws.{otherwise}'
 LOCATED = 'Rattle.page.proofs.ReachLaws.{located-inside}'
-LATER = 'Rattle.clock.specs.Later.{later}'
 ARITHMETIC = [EQUATIONS, 'Prim.Native.Nat.{_/_, _%_, _+_}', 'borrow.Author.Tests.{ne-eqb}', OMEGA]
 
 # the places of definitions
@@ -122,24 +121,27 @@ def others(count):
     return ', '.join('ne-eqb _ _ (@match .rest%s .1)' % (' .0' * i) for i in reversed(range(count)))
 
 
-# the machine that a function is given: its registers; memory and pages; those and the ports; its state, at once, with memory, pages
-# and the instruction, and later
+# the machine that a function is given: its registers; memory and pages; those and the ports; its processor, at once, with memory,
+# pages and the instruction, and in a state s
 REGS = '(@args .regs .now)'
 PAGED = '(@args .memory .now) (@args .pages .now)'
 SPACES = PAGED + ' (@args .ports .now)'
 PLAIN = '(joined (@args .core) %s)' % REGS
 STARTED = '%s %s (@args .n)' % (PLAIN, PAGED)
-LAGGING = '(later (@args .lag) %s)' % PLAIN
+AROUND = '(withProcessor s %s)' % PLAIN
 
 
-# an operation that is refused leaves the state as it was
+# an operation that is refused leaves the processor as it was
 def unchanged(call):
     return '(ap (λ k. joined k %s) (@%s .ensures .2))' % (REGS, call)
 
 
-# what a fault leaves of the machine: the same but for the state, later by `lag`
-def failed(ports='(@args .ports .now)', lag='(@args .lag)', kept='refl', regs=''):
-    return 'failed (later %s %s) _ (@args .memory .now) _ (@args .pages .now) %s _ _ (%s) (%s@deny .ensures .1 %s %s)' % (lag, PLAIN, ports, kept, regs, lag, REGS)
+# what a fault leaves of the machine: the same but for the core
+def failed(ports='(@args .ports .now)', kept='refl'):
+    return 'failed %s _ (@args .memory .now) _ (@args .pages .now) %s _ _ (%s) refl' % (AROUND, ports, kept)
+
+
+DENIED = 'rw (@deny .ensures) (unsettled-lasting _ _ refl)'
 
 
 # the words that an entry stores, by the call that gave its vector

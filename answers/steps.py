@@ -1,11 +1,12 @@
 # The answers from which the proofs of the crate `steps` are written.
 LAWS = 'Rattle.steps.proofs.StepLaws.'
-TIME = 'Rattle.moved.proofs.TimeLaws.'
+ROWS = 'Rattle.steps.specs.Rows.'
 CALM = ['Rattle.clock.specs.Later.{Calm, later}', 'Rattle.clock.proofs.LaterLaws.{calm-fewer}']
+MOVED = 'Rattle.moved.proofs.MovedLaws.{timer-none}'
 ANSWERS = 'borrow.Author.Tests.{eq-eqb, ne-eqb, le-leb, lt-leb, not-true, not-false}'
 
 # the lengths of the lists after a call, by its argument at this place, the first of the three
-PLACES = {'instruct': 5, 'turn': 4}
+PLACES = {'instruct': 4, 'turn': 4}
 
 
 def lengths(call):
@@ -17,79 +18,65 @@ def kept(call):
     return {'same-length' + ('' if place == 0 else '-%d' % (place + 1)): 'let l = @loop in ' + lengths(call)[place % 3] for place in range(6)}
 
 
-# an interrupt is entered
-def entered(regs, ports):
-    state = '(joined (@release .result) %s)' % regs
-    return ('enter-unseen (@args .core) (@arrive .result) %s %s %s _ (@args .n) _ _ (@release .ensures %s) (@vector .ensures) '
-            '(entered-by %s _ (@args .memory .now) _ (@args .pages .now) %s (@args .n) _ _ %s (@arrive .ensures %s))'
-            % (regs, PAGED, ports, regs, state, ports, linked('vector', state), regs))
-
-
 # a row of instructions: the last of them so far
-ROW = ('mil1750 (@args .from) (l .lag) (l .inv .3) (later (@args .from) (joined (@release .result) %s)) (later (l .lag) (joined (l .t) (l .regs))) %s '
-       '(l .memory) (l .pages) (l .ports) (l .inv .12) (@instruct .result .lagging) (@instruct .result .core) _ _ _ _ (@instruct .ensures .0)' % (REGS, SPACES))
-CHOSEN = 'rw (chosen-settled _ _ s (l .regs) _) (l .inv .10 (@if2 .left))'
+ROW = ('mil1750 s (@args .from) (l .lag) (l .inv .3) _ _ %s %s (l .regs) (l .memory) (l .pages) (l .ports) (l .inv .10 s q) (@instruct .result) _ _ _ _ '
+       '(@instruct .ensures .0 (withClock s (later (l .lag) (s .clock))))' % (REGS, SPACES))
+CHOSEN = 'rw (chosen-settled _ _ d) (l .inv .9 (@if2 .left))'
 OBEYED = ('let l = @loop in rw (@%%s .ensures) (record { onward = omega (arith, l .inv .3); within = omega (arith, l .inv .4, l .inv .5); '
-          'time-kept = λ h. same-onward _ _ _ (time-released _ _ (@release .ensures)) (same-onward _ _ _ (l .inv .11) (@instruct .ensures .1 .time-kept h)); '
-          'made = row-made %s (later (@args .from) %s) (later-released _ _ (@release .ensures) (@args .from) %s) (rw (chosen-later (@args .from) %s) (@Start .pre .5)) })'
-          % (ROW, PLAIN, REGS, PLAIN))
+          'made = λ s q. row-made %s (@args .core) (@release .ensures) (@Start .pre .4) })' % ROW)
 
-# a stretch of turns without the clock
-LAGS = '(not-false (@turn .result .lagging) (@if1 .left))'
-STRETCH = ('mil1750 (machine (later (l .lag) (joined (l .t) (l .regs))) (l .memory) (l .pages) (l .ports)) _ (@args .n) (l .lag) (@turn .result .lag) (@turn .ensures .onward) '
-           '(omega (arith, @turn .ensures .within, l .inv .4)) (l .inv .6) (@turn .result .lagging) (@turn .result .core) _ _ _ _ (@turn .ensures .made)')
-STILL = 'calm-same _ _ _ (@turn .ensures .time-kept %s) (l .inv .5)' % LAGS
+# a stretch of turns, before which all n steps come to what is left of them
+STRETCH = ('mil1750 (withClock s (@args .clock)) _ _ (@args .n) (l .lag) (@turn .result) (@turn .ensures .onward) (omega (arith, @turn .ensures .within, l .inv .4)) (l .inv .6 s) _ _ _ _ '
+           '(@turn .ensures .made (withClock s (@args .clock)) (l .inv .5))')
+ENDED = ('let l = @loop in (omega (arith, @%s .ensures .0, @turn .ensures .onward), λ s. rw (@%s .ensures .0) (stretch-end ' + STRETCH + ' _ (@%s .ensures .1 s)))')
+FINISHED = 'let l = @loop in (calm-fewer _ _ _ (omega (arith, @turn .ensures .within)) (l .inv .5), omega (arith, @turn .ensures .onward), omega (arith, @turn .ensures .within, l .inv .4))'
+# no timer command is left
+DONE = '@if1 .left'
 
 A = {
-    'interrupted': by(use=['Rattle.entry.proofs.EntryLaws.{entered-by}', STATE + '{joined}', TIME + '{enter-unseen}', NIL],
-        returns='(λ lag regs ports. %s .0 lag, %s .1)' % (entered('regs', 'ports'), entered('[]', '[]'))),
+    'interrupted': by(STEP + ' perform begunFrom', use=['Rattle.entry.proofs.EntryLaws.{entered-by}', STATE + '{joined, withProcessor}'],
+        returns='λ s regs ports. rw (← @release .ensures, ← @vector .ensures) (entered-by (withProcessor s (joined (@release .result) regs)) (@release .result) _ (@args .memory .now) _ '
+            '(@args .pages .now) ports (@args .n) _ _ %s (@arrive .ensures))' % linked('vector', '(@release .result)')),
     'end_of': by(use=[OMEGA], returns='(rw (@if1 .taken) refl, omega arith, omega arith, λ h. absurd (omega arith))',
         returns_2='(rw (@if1 .left) refl, omega arith, omega arith, λ h. @if1 .left)'),
     'obey': {
-        'use': [EQUATIONS, OMEGA, ANSWERS, LENGTH, 'Prim.Native.Nat.{ℕ, _+_, _≤_, _<_, _-_}', STATE + '{keyOf, groupOf, joined}', ISA + '{mil1750}', 'mathlib.Core.Bool.{false}',
-                ENTRIES + '{chosen}', *CALM, 'Rattle.moved.specs.Settled.{SameTime}', TIME + '{same-here, same-onward, calm-same}',
-                LAWS + '{going, row-made, row-on, sw-released, hold-released, time-released, later-released, chosen-released, chosen-later, chosen-settled}'],
+        'use': [EQUATIONS, OMEGA, ANSWERS, LENGTH, 'Prim.Native.Nat.{ℕ, _+_, _≤_, _<_, _-_}', 'Rattle.machine.specs.declared.State.{State}', STATE + '{keyOf, groupOf, withClock}', ISA + '{mil1750}',
+                'mathlib.Core.Bool.{false}', ENTRIES + '{chosen}', *CALM, ROWS + '{lateAt}',
+                LAWS + '{going, row-made, row-on, sw-released, hold-released, chosen-released, chosen-settled}'],
         'Inv-loop': '(length memory ≡ length memory₀) × (length pages ≡ length pages₀) × (length ports ≡ length ports₀) × (lag₀ ≤ lag) × (lag < end) × (end ≤ most) × '
-            '(key ≡ keyOf (t .sw)) × (group ≡ groupOf (t .sw)) × (t .hold ≡ false) × Calm (most - 1) t × (lag + 1 < end → 16 ≤ chosen (joined t regs)) × SameTime t₀ t × '
-            '((k : ℕ) → going mil1750 (k + (lag - lag₀)) (later lag₀ (joined t₀ regs₀)) memory₀ pages₀ ports₀ ≡ going mil1750 k (later lag (joined t regs)) memory pages ports)',
+            '(key ≡ keyOf (t .sw)) × (group ≡ groupOf (t .sw)) × (t .hold ≡ false) × (lag + 1 < end → 16 ≤ chosen t) × '
+            '((s : State) → Calm (most - 1) (s .clock) → (k : ℕ) → going mil1750 (k + (lag - lag₀)) (lateAt s lag₀ t₀ regs₀) memory₀ pages₀ ports₀ ≡ going mil1750 k (lateAt s lag t regs) memory pages ports)',
         'μ-loop': 'end - lag', 'default': 'omega arith', 'end-of-requires': '@Start .pre .3',
         'loop-holds': '(refl, refl, refl, omega arith, @end-of .ensures .1, @end-of .ensures .2, @key-of .ensures .0 ∙ ap keyOf (sw-released _ _ (@release .ensures)), '
             '@group-of .ensures .0 ∙ ap groupOf (sw-released _ _ (@release .ensures)), hold-released _ _ (@release .ensures), '
-            'calm-same _ _ _ (time-released _ _ (@release .ensures)) (@Start .pre .4), '
-            'λ h. rw (chosen-released _ _ (@release .ensures) (@end-of .ensures .3 h) %s) (@Start .pre .5), same-here _, '
-            'λ k. ap (λ j. going mil1750 j (later (@args .from) (joined (@release .result) %s)) %s) (omega arith))' % (REGS, REGS, SPACES),
-        'instruct-requires': '(omega arith, omega arith, @Start .pre .2, @loop .inv .6, @loop .inv .7, @group-of .ensures .1, '
-            'calm-fewer _ _ _ (omega (arith, @loop .inv .4, @loop .inv .5)) (@loop .inv .9))',
+            'λ h. rw (chosen-released _ _ (@release .ensures) (@end-of .ensures .3 h)) (@Start .pre .4), '
+            'λ s q k. ap (λ j. going mil1750 j (lateAt s (@args .from) (@release .result) %s) %s) (omega arith))' % (REGS, SPACES),
+        'instruct-requires': '(omega arith, omega arith, @Start .pre .2, @loop .inv .6, @loop .inv .7, @group-of .ensures .1)',
         'add-lag': 'omega (arith, @loop .inv .4)', 'loop-less': 'omega (arith, @loop .inv .4)',
-        'loop-again': 'let l = @loop in let y = not-false (@instruct .result .settled) (@if1 .left) in let z = @instruct .ensures .1 in '
-            'let s = z .choice-kept y in let w = z .time-kept (z .lags y) in '
-            '(%s, omega (arith, l .inv .3), @if2 .left, l .inv .5, l .inv .6 ∙ sym (s .key-kept), l .inv .7 ∙ sym (s .group-kept), s .hold-kept ∙ l .inv .8, calm-same _ _ _ w (l .inv .9), '
-            'λ h. %s, same-onward _ _ _ (l .inv .11) w, row-on %s (z .lags y) (s .hold-kept ∙ l .inv .8) (%s) '
-            '(calm-fewer _ _ _ (omega (arith, @if2 .left, l .inv .5)) (calm-same _ _ _ w (l .inv .9))))' % (', '.join(lengths('instruct')), CHOSEN, ROW, CHOSEN),
+        'loop-again': 'let l = @loop in let y = not-false (@instruct .result .settled) (@if1 .left) in let z = @instruct .ensures .1 in let d = z .choice-kept y in '
+            '(%s, omega (arith, l .inv .3), @if2 .left, l .inv .5, l .inv .6 ∙ sym (d .key-kept), l .inv .7 ∙ sym (d .group-kept), d .hold-kept ∙ l .inv .8, λ h. %s, '
+            'λ s q. row-on %s (z .all-done y) (d .hold-kept ∙ l .inv .8) (%s) (calm-fewer _ _ _ (omega (arith, @if2 .left, l .inv .5)) q))' % (', '.join(lengths('instruct')), CHOSEN, ROW, CHOSEN),
         'returns': OBEYED % 'ended', 'returns-2': OBEYED % 'ended2', **kept('instruct')},
-    'turn': by(use=[OMEGA, LATER, LAWS + '{entry-made}', STATE + '{joined}', MACHINE + '{machine}', ISA + '{mil1750}'],
-        obey_requires='(@Start .pre .0, @Start .pre .1, @Start .pre .2, @Start .pre .3, @Start .pre .4, rw (← @choose .ensures %s refl refl refl refl) (@if1 .left))' % PLAIN,
-        returns='record { onward = omega arith; within = omega (arith, @Start .pre .3); time-kept = λ h. @interrupted .ensures .1; '
-            'made = entry-made mil1750 (machine %s %s) _ (@args .lag) (@choose .ensures %s refl refl refl refl) (@if1 .taken) (joined (@interrupted .result) %s) _ _ _ '
-            '(@interrupted .ensures .0 (@args .lag) %s (@args .ports .now)) }' % (LAGGING, SPACES, LAGGING, REGS, REGS),
+    'turn': by(use=[OMEGA, LAWS + '{entry-made}', 'Rattle.clock.specs.Later.{later}', STATE + '{withClock}', ISA + '{mil1750}', MOVED],
+        obey_requires='(@Start .pre .0, @Start .pre .1, @Start .pre .2, @Start .pre .3, rw (← @choose .ensures (@args .core) refl refl refl refl) (@if1 .left))',
+        returns='record { onward = omega arith; within = omega (arith, @Start .pre .3); made = λ s q k. rw (timer-none _ _) (entry-made mil1750 s _ (@args .lag) _ _ %s %s _ '
+            '(@choose .ensures (@args .core) refl refl refl refl) (@if1 .taken) (@interrupted .ensures (withClock s (later (@args .lag) (s .clock))) %s (@args .ports .now)) k) }' % (REGS, SPACES, REGS),
         returns_2='@obey .ensures'),
+    'finish': by(STEP + ' ticked', use=[OMEGA], tick_by_requires='@Start .pre .0', sub_tick_by='omega (arith, @Start .pre .1, @Start .pre .2)',
+        returns='(refl, λ s. rw (← @tick-by .ensures, ← @time .ensures s (@args .core), @pend .ensures, @expire .ensures, @elapse .ensures) refl)'),
     'go_on': {
-        'use': [EQUATIONS, OMEGA, ANSWERS, LENGTH, 'Prim.Native.Nat.{_+_, _≤_, _<_, _-_}', STATE + '{joined}', MACHINE + '{machine}', RUNS + '{steps}', ISA + '{mil1750}',
-                *CALM, TIME + '{calm-same}', LAWS + '{stretch-start, stretch-cut, stretch-end, stretch-on}'],
-        'Inv-loop': '(length memory ≡ length memory₀) × (length pages ≡ length pages₀) × (length ports ≡ length ports₀) × (lag < most) × (most ≤ n) × Calm (most - 1) t × '
-            '(steps mil1750 n (machine (joined t₀ regs₀) memory₀ pages₀ ports₀) ≡ steps mil1750 (n - lag) (machine (later lag (joined t regs)) memory pages ports))',
+        'use': [EQUATIONS, OMEGA, ANSWERS, LENGTH, 'Prim.Native.Nat.{_+_, _≤_, _<_, _-_}', 'Rattle.machine.specs.declared.State.{State}', STATE + '{joined, withProcessor, withClock}', MACHINE + '{machine}',
+                RUNS + '{steps}', ISA + '{mil1750}', *CALM, ROWS + '{lateAt}', LAWS + '{stretch-start, stretch-end, stretch-on}'],
+        'Inv-loop': '(length memory ≡ length memory₀) × (length pages ≡ length pages₀) × (length ports ≡ length ports₀) × (lag < most) × (most ≤ n) × Calm (most - 1) clock × '
+            '((s : State) → steps mil1750 n (machine (withClock (withProcessor s (joined t₀ regs₀)) clock) memory₀ pages₀ ports₀) ≡ steps mil1750 (n - lag) (machine (lateAt (withClock s clock) lag t regs) memory pages ports))',
         'μ-loop': 'most - lag', 'default': 'omega arith', 'sub-quiet': 'omega (arith, @Start .pre .3)', 'add-most': 'omega (arith, @quiet .ensures .1)',
         'loop-holds': '(refl, refl, refl, omega arith, omega (arith, @quiet .ensures .1, @Start .pre .3), calm-fewer _ _ _ (omega arith) (@quiet .ensures .2), '
-            'stretch-start mil1750 (@args .n) 0 %s %s refl)' % (PLAIN, SPACES),
-        'turn-requires': '(omega arith, omega arith, @Start .pre .2, @loop .inv .3, @loop .inv .5)',
-        'sub-t25': 'omega (arith, @turn .ensures .within, @loop .inv .4)', 'sub-t26': 'omega (arith, @loop .inv .4)', 'sub-tick-by': 'omega arith',
-        'returns': 'let l = @loop in (omega (arith, @turn .ensures .onward, @turn .ensures .within, l .inv .4), '
-            'stretch-cut %s (not-true (@turn .result .lagging) (@if1 .taken)) _ (@tick .ensures))' % STRETCH,
-        'tick-by-requires': 'let l = @loop in ' + STILL,
-        'returns-2': 'let l = @loop in (omega (arith, l .inv .4), stretch-end %s %s (@quiet .result + 1) (omega (arith, @turn .ensures .within, @if2 .taken)) _ _ '
-            '(@tick-by .ensures) (@tick2 .ensures))' % (STRETCH, LAGS),
+            'λ s. stretch-start mil1750 (@args .n) 0 (withClock s (@args .clock)) (@args .core) %s %s refl)' % (REGS, SPACES),
+        'turn-requires': '(omega arith, omega arith, @Start .pre .2, @loop .inv .3)',
+        'finish-requires': FINISHED, 'finish-requires-2': FINISHED,
+        'returns': ENDED % ('finish', 'finish', 'finish'), 'returns-2': ENDED % ('finish2', 'finish2', 'finish2'),
         'loop-less': 'omega (arith, @turn .ensures .onward, @turn .ensures .within, @loop .inv .3)',
-        'loop-again': 'let l = @loop in (%s, @if2 .left, l .inv .4, %s, stretch-on %s %s (calm-fewer _ _ _ (omega (arith, @if2 .left)) (%s)))'
-            % (', '.join(lengths('turn')), STILL, STRETCH, LAGS, STILL),
+        'loop-again': 'let l = @loop in (%s, @if2 .left, l .inv .4, l .inv .5, λ s. stretch-on %s (%s) (calm-fewer _ _ _ (omega (arith, @if2 .left)) (l .inv .5)))'
+            % (', '.join(lengths('turn')), STRETCH, DONE),
         **kept('turn')},
 }

@@ -1,52 +1,47 @@
 # The answers from which the proofs of the crate `system` are written.
 ACT = 'Rattle.moved.proofs.ActLaws.'
-TIME = 'Rattle.moved.proofs.TimeLaws.'
+MOVED = 'Rattle.moved.proofs.MovedLaws.'
 PRIVILEGED = 'Rattle.system.proofs.PrivilegedLaws.'
 SYSTEM = 'Rattle.system.proofs.SystemLaws.'
 
-# the time of the state that `unsettled` was given is that of the state before
-LASTING = 'unsettled-lasting _ _ (@unsettled .ensures .2) '
-UNSETTLED = '@unsettled .ensures .1, @unsettled .ensures .0'
+# what is unsettled, and has nothing left to do
+UNSETTLED = 'rw (@unsettled .ensures) (unsettled-lasting _ _ refl)'
 
 
-# what a command leaves, with its time or after it
+# what a command leaves
 def governed(law, facts):
-    return ('λ memory. %s (@args .core) memory (@args .n) (@args .regs .now) _ (@args .pages .now) _ (@args .ports .now) _ (@transfer .result) _ '
-            '(@transfer .ensures .0) %s' % (law, facts))
+    return ('λ s memory. %s %s memory (@args .n) _ (@args .pages .now) _ (@args .ports .now) _ (@transfer .result) _ (@transfer .ensures .0 %s) %s' % (law, AROUND, AROUND, facts))
 
 
-def late(memory):
-    return ('command-late (@args .lag) _ _ _ _ (@args .regs .now) %s (@args .pages .now) (@args .ports .now) _ _ _ (@args .n) (@sees-time .result) (@sees-time .ensures) '
-            '(@behind .ensures) (@tick-by .ensures (@args .regs .now)) (@govern .ensures %s)' % (memory, memory))
-
-
-def called(regs, ports):
-    return 'call-unseen _ _ %s %s %s _ _ (@call .ensures %s %s)' % (regs, PAGED, ports, regs, ports)
-
-
-LOADED = '(later lag %s) %s ports (@args .n) (@Start .pre .4) _ _ (@Start .pre .1) (@Start .pre .2) _ (@read-operand .ensures 3 (way-count (@args .n) 8 (@Start .pre .4) (omega arith) 3 refl))' % (PLAIN, PAGED)
-SHIFTED = '(withIc (joined (@args .core) regs) (@advance .result))'
+LOADED = '%s %s ports (@args .n) (@Start .pre .4) _ _ (@Start .pre .1) (@Start .pre .2) _ (@read-operand .ensures 3 (way-count (@args .n) 8 (@Start .pre .4) (omega arith) 3 refl))' % (AROUND, PAGED)
+SHIFTED = '(withIc (@args .core) (@advance .result))'
+BEX = '(withProcessor s (joined (@args .core) regs))'
 
 A = {
-    'refuse': by(returns='λ regs. rw (← @advance .ensures) (@fault .ensures regs)'),
-    'govern': by(use=[PRIVILEGED + '{governed-done, governed-refused}'],
+    'govern': by(use=[PRIVILEGED + '{governed-done, governed-refused}', STATE + '{joined, withProcessor}'],
+        transfer_requires='(@Start .pre .0, @Start .pre .1, @Start .pre .2)',
         returns=governed('governed-done', '_ (@governed .given .1)'),
-        returns_2=governed('governed-refused', '_ _ (@governed2 .given .1) (@transfer .ensures .1, @transfer .ensures .2, @transfer .ensures .3) (@refuse .ensures)')),
+        returns_2=governed('governed-refused', '_ _ (@governed2 .given .1) (@transfer .ensures .1, @transfer .ensures .2, @transfer .ensures .3) (rw (← @advance .ensures) (@fault .ensures))')),
     'call': by(STEP + ' perform', ENTRIES + ' arrived', STATE + ' withIc withSw withMk withPi withFt withEnabled advanced',
-        use=['Rattle.entry.proofs.EntryLaws.{entered-by}', STATE + '{joined}'],
-        returns='λ regs ports. rw (← @call-vector .ensures, ← @advance .ensures) (entered-by %s _ (@args .memory .now) _ (@args .pages .now) ports 5 _ _ %s (@arrive .ensures regs))'
-            % (SHIFTED, linked('call-vector', SHIFTED))),
-    'command': by(use=[LATER, TIME + '{unsettled-lasting}', PRIVILEGED + '{command-late, behind-calm}', SYSTEM + '{xio-carried}', STATE + '{joined}', NIL],
-        tick_by_requires='behind-calm (@sees-time .result) _ _ (@args .core) (@behind .ensures) (@Start .pre .2)', govern_requires='(@Start .pre .0, @Start .pre .1)',
-        returns='(λ memory. rw (← xio-carried %s memory (@args .pages .now) (@args .ports .now) (@args .n) (@Start .pre .3), %s) (%s .0), %s(rw (%s) (%s .1)))'
-            % (LAGGING, UNSETTLED, late('memory'), LASTING, UNSETTLED, late('[]'))),
-    'executive': by(use=[LATER, OMEGA, SYSTEM + '{bex-carried}', TIME + '{unsettled-lasting, call-unseen}', STATE + '{joined}', NIL],
+        use=['Rattle.entry.proofs.EntryLaws.{entered-by}', STATE + '{joined, withProcessor}'],
+        returns='λ s regs ports. rw (← @call-vector .ensures, ← @advance .ensures) (entered-by %s %s _ (@args .memory .now) _ (@args .pages .now) ports 5 _ _ %s (@arrive .ensures))'
+            % (BEX, SHIFTED, linked('call-vector', SHIFTED))),
+    'command': by(use=[MOVED + '{timer-none, unsettled-lasting}', PRIVILEGED + '{timer-became}', SYSTEM + '{xio-carried}', STATE + '{joined, withProcessor}'],
+        govern_requires='(@Start .pre .0, @Start .pre .1, sym (@is-timer .ensures) ∙ @if1 .left)',
+        returns='λ memory. (λ s. rw (← xio-carried %s memory (@args .pages .now) (@args .ports .now) (@args .n) (@Start .pre .2)) '
+            '(timer-became %s memory (@args .pages .now) (@args .ports .now) (@args .n) _ _ (sym (@is-timer .ensures) ∙ @if1 .taken) (@field-a .ensures .0) (@resume .ensures)), '
+            'unsettled-lasting _ _ refl)' % (AROUND, AROUND),
+        returns_2='λ memory. (λ s. rw (@unsettled .ensures, timer-none _ _, ← xio-carried %s memory (@args .pages .now) (@args .ports .now) (@args .n) (@Start .pre .2)) '
+            '(@govern .ensures s memory), %s)' % (AROUND, UNSETTLED)),
+    'executive': by(use=[OMEGA, SYSTEM + '{bex-carried}', MOVED + '{timer-none, unsettled-lasting}', STATE + '{joined, withProcessor}'],
         call_requires='(@Start .pre .0, omega arith)',
-        returns='(λ lag regs ports. rw (%s, ← bex-carried (later lag (joined (@args .core) regs)) %s ports (@args .n) (@Start .pre .1)) (%s .0 lag), %s(λ h. rw (@unsettled .ensures .0) (%s .1)))'
-            % (UNSETTLED, PAGED, called('regs', 'ports'), LASTING, called('[]', '[]'))),
-    'load': by(use=[LATER, OMEGA, 'Rattle.accumulate.proofs.WayLaws.{way-count}', ACT + '{failed}', SYSTEM + '{lst-carried, lst-denied, lst-became}', TIME + '{unsettled-lasting}', PRIVILEGED + '{status-time}', STATE + '{joined}'],
+        returns='λ regs ports. (λ s. rw (@unsettled .ensures, timer-none _ _, ← bex-carried %s %s ports (@args .n) (@Start .pre .1)) (@call .ensures s regs ports), %s)'
+            % (BEX, PAGED, UNSETTLED)),
+    'load': by(use=[OMEGA, 'Rattle.accumulate.proofs.WayLaws.{way-count}', ACT + '{failed}', SYSTEM + '{lst-carried, lst-denied, lst-became}',
+                    MOVED + '{timer-none, unsettled-lasting}', STATE + '{joined, withProcessor}'],
         read_operand_requires='(@Start .pre .0, @Start .pre .3, @Start .pre .5, omega (arith, @Start .pre .4))',
-        returns='(λ lag ports. rw (%s, ← lst-carried %s (@if1 .taken)) (lst-became lag (@args .core) (@load-status .result) %s %s ports _ _ _ (@load-status .ensures %s)), '
-            '%s(λ h. rw (@unsettled .ensures .0) (status-time _ _ %s _ _ _ (@load-status .ensures %s))))' % (UNSETTLED, LOADED, REGS, PAGED, REGS, LASTING, REGS, REGS),
-        returns_2='(λ lag ports. rw (@deny .ensures .0, ← lst-denied %s (@if1 .left), ← @advance .ensures) (%s), @deny .ensures .2)' % (LOADED, failed('ports', 'lag'))),
+        returns='λ ports. (λ s. rw (@unsettled .ensures, timer-none _ _, ← lst-carried %s (@if1 .taken)) (lst-became %s _ %s ports _ _ _ (@load-status .ensures)), %s)'
+            % (LOADED, AROUND, PAGED, UNSETTLED),
+        returns_2='λ ports. (λ s. rw (@deny .ensures, timer-none _ _, ← lst-denied %s (@if1 .left), ← @advance .ensures) (%s), %s)'
+            % (LOADED, failed('ports'), DENIED)),
 }

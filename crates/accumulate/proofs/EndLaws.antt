@@ -16,11 +16,10 @@ use Rattle.page.specs.Spans.{wrapped, putAt, andThen, passed, checkedFrom, chec
 use Rattle.word.specs.Pair.{highWord, lowWord}
 use Rattle.fixed.specs.Fixed.{Outcome}
 use Rattle.decode.specs.Forms.{lengthOf, modeOf, operationOf}
-use Rattle.machine.specs.declared.State.{State}
 use Rattle.machine.specs.declared.Core.{Core}
 use Rattle.machine.specs.declared.Instruction.{Instruction}
 use Rattle.machine.specs.declared.Class.the-variants.{User}
-use Rattle.machine.specs.State.{keyOf, groupOf, joined}
+use Rattle.machine.specs.State.{Processor, keyOf, groupOf, joined}
 use Rattle.machine.specs.Machine.{Effect, spanFrom}
 use Rattle.machine.specs.Instructions.{both}
 use Rattle.machine.specs.Step.{affected, stored}
@@ -83,23 +82,23 @@ module _ (key group : ℕ) (g : List ℕ) (size a : ℕ) where
 
 -- ---- the end of an instruction, from the verdicts on the words that it reads and on those that it writes
 
-module _ (s : State) (m g : List ℕ) (n : Instruction) (user : classOf (operationOf (n .form)) ≡ User) where
+module _ (s : Processor) (m g : List ℕ) (n : Instruction) (user : classOf (operationOf (n .form)) ≡ User) where
   abbrev reading : Verdict
-  reading = checked (keyOf (s .sw)) (groupOf (s .sw)) g (length m) (readsOf (s .regs) n) Read
+  reading = checked (keyOf (s .core .sw)) (groupOf (s .core .sw)) g (length m) (readsOf (s .regs) n) Read
 
   abbrev writing : Verdict
-  writing = checked (keyOf (s .sw)) (groupOf (s .sw)) g (length m) (writesOf (s .regs) n) Write
+  writing = checked (keyOf (s .core .sw)) (groupOf (s .core .sw)) g (length m) (writesOf (s .regs) n) Write
 
-  pub ended-clear : (e : Effect) (c : Bool) (fault : ℕ) (t : State) (w : List ℕ) → reading ≡ Clear → writing ≡ Clear
-      → executed (contextOf s) n (operandWords s m g n) ≡ e → c ≡ true → t ≡ affected s e → w ≡ stored s m g e (writesOf (s .regs) n) → Ended s m g n c fault t w
+  pub ended-clear : (e : Effect) (c : Bool) (fault : ℕ) (t : Processor) (w : List ℕ) → reading ≡ Clear → writing ≡ Clear
+      → executed (contextOf s) n (operandWords s m g n) ≡ e → c ≡ true → t ≡ affected s e → w ≡ stored (s .core) m g e (writesOf (s .regs) n) → Ended s m g n c fault t w
   unfolding both
   ended-clear e c fault t w p q d h i j = record {
     by-user = user;
-    when-clear = λ _. record { admitted = rw (p, q) refl; worked = rw d (record { state-is = i; memory-is = j }) };
+    when-clear = λ _. record { admitted = rw (p, q) refl; worked = rw d (record { processor-is = i; memory-is = j }) };
     when-refused = λ r. absurd (false≢true (sym r ∙ h));
   }
 
-  pub ended-refused : (c : Bool) (fault : ℕ) (t : State) → verdict s m g n ≡ Fault fault → c ≡ false → t ≡ s → Ended s m g n c fault t m
+  pub ended-refused : (c : Bool) (fault : ℕ) (t : Processor) → verdict s m g n ≡ Fault fault → c ≡ false → t ≡ s → Ended s m g n c fault t m
   ended-refused c fault t p h i = record {
     by-user = user;
     when-clear = λ r. absurd (false≢true (sym h ∙ r));
@@ -108,7 +107,7 @@ module _ (s : State) (m g : List ℕ) (n : Instruction) (user : classOf (operati
 
   -- ---- k words are read and none is written
 
-  module _ (key group k : ℕ) (d : key ≡ keyOf (s .sw)) (e : group ≡ groupOf (s .sw))
+  module _ (key group k : ℕ) (d : key ≡ keyOf (s .core .sw)) (e : group ≡ groupOf (s .core .sw))
       (reads : readsOf (s .regs) n ≡ spanFrom (n .address) (cond (inMemory (modeOf (n .form))) k 0))
       (writes : writesOf (s .regs) n ≡ spanFrom (n .address) (cond (inMemory (modeOf (n .form))) 0 0))
       (v : Gathered)
@@ -118,19 +117,19 @@ module _ (s : State) (m g : List ℕ) (n : Instruction) (user : classOf (operati
     gathers = rw (reads, ← d, ← e) i
 
     unwritten : writing ≡ Clear
-    unwritten = rw writes (none-checked (keyOf (s .sw)) (groupOf (s .sw)) g (length m) (n .address) Write (inMemory (modeOf (n .form))))
+    unwritten = rw writes (none-checked (keyOf (s .core .sw)) (groupOf (s .core .sw)) g (length m) (n .address) Write (inMemory (modeOf (n .form))))
 
     pub words-first : v .clear ≡ true → FirstThree (operandWords s m g n) (v .x) (v .y) (v .z)
     words-first h = all-gathered _ _ v gathers h .1
 
-    pub read-done : (f : Effect) (c : Bool) (fault : ℕ) (t : State) → v .clear ≡ true → executed (contextOf s) n (operandWords s m g n) ≡ f → c ≡ true
+    pub read-done : (f : Effect) (c : Bool) (fault : ℕ) (t : Processor) → v .clear ≡ true → executed (contextOf s) n (operandWords s m g n) ≡ f → c ≡ true
         → t ≡ affected s f → Ended s m g n c fault t m
     unfolding stored
     read-done f c fault t h x r j =
         ended-clear f c fault t m (all-gathered _ _ v gathers h .0) unwritten x r j
-        (rw writes (sym (none-written (keyOf (s .sw)) (groupOf (s .sw)) g (length m) (n .address) (f .words) m (inMemory (modeOf (n .form))))))
+        (rw writes (sym (none-written (keyOf (s .core .sw)) (groupOf (s .core .sw)) g (length m) (n .address) (f .words) m (inMemory (modeOf (n .form))))))
 
-    pub read-refused : (c : Bool) (fault : ℕ) (t : State) → v .clear ≡ false → c ≡ false → fault ≡ v .fault → t ≡ s → Ended s m g n c fault t m
+    pub read-refused : (c : Bool) (fault : ℕ) (t : Processor) → v .clear ≡ false → c ≡ false → fault ≡ v .fault → t ≡ s → Ended s m g n c fault t m
     unfolding both
     read-refused c fault t h r q j = ended-refused c fault t (rw (denied-gathered _ _ v gathers h, q) refl) r j
 
@@ -138,51 +137,51 @@ module _ (s : State) (m g : List ℕ) (n : Instruction) (user : classOf (operati
 
   module _ (reads : readsOf (s .regs) n ≡ spanFrom (n .address) (cond (inMemory (modeOf (n .form))) 0 0)) where
     unread : reading ≡ Clear
-    unread = rw reads (none-checked (keyOf (s .sw)) (groupOf (s .sw)) g (length m) (n .address) Read (inMemory (modeOf (n .form))))
+    unread = rw reads (none-checked (keyOf (s .core .sw)) (groupOf (s .core .sw)) g (length m) (n .address) Read (inMemory (modeOf (n .form))))
 
     pub idle-done : (b : Bool) → writesOf (s .regs) n ≡ spanFrom (n .address) (cond b 0 0)
-        → (f : Effect) (c : Bool) (fault : ℕ) (t : State) → executed (contextOf s) n (operandWords s m g n) ≡ f → c ≡ true → t ≡ affected s f → Ended s m g n c fault t m
+        → (f : Effect) (c : Bool) (fault : ℕ) (t : Processor) → executed (contextOf s) n (operandWords s m g n) ≡ f → c ≡ true → t ≡ affected s f → Ended s m g n c fault t m
     unfolding stored
     idle-done b writes f c fault t x r j =
-        ended-clear f c fault t m unread (rw writes (none-checked (keyOf (s .sw)) (groupOf (s .sw)) g (length m) (n .address) Write b)) x r j
-        (rw writes (sym (none-written (keyOf (s .sw)) (groupOf (s .sw)) g (length m) (n .address) (f .words) m b)))
+        ended-clear f c fault t m unread (rw writes (none-checked (keyOf (s .core .sw)) (groupOf (s .core .sw)) g (length m) (n .address) Write b)) x r j
+        (rw writes (sym (none-written (keyOf (s .core .sw)) (groupOf (s .core .sw)) g (length m) (n .address) (f .words) m b)))
 
-    module _ (key group : ℕ) (d : key ≡ keyOf (s .sw)) (e : group ≡ groupOf (s .sw)) (writes : writesOf (s .regs) n ≡ spanFrom (n .address) 1) (q : Place)
+    module _ (key group : ℕ) (d : key ≡ keyOf (s .core .sw)) (e : group ≡ groupOf (s .core .sw)) (writes : writesOf (s .regs) n ≡ spanFrom (n .address) 1) (q : Place)
         (i : q ≡ lookup Write key group g (length m) (n .address)) where
-      looked : lookup Write (keyOf (s .sw)) (groupOf (s .sw)) g (length m) (n .address) ≡ q
+      looked : lookup Write (keyOf (s .core .sw)) (groupOf (s .core .sw)) g (length m) (n .address) ≡ q
       looked = rw (← d, ← e) (sym i)
 
       placed : writing ≡ andThen q Clear
-      placed = rw (writes, ← looked) (one-checked (keyOf (s .sw)) (groupOf (s .sw)) g (length m) (n .address) Write)
+      placed = rw (writes, ← looked) (one-checked (keyOf (s .core .sw)) (groupOf (s .core .sw)) g (length m) (n .address) Write)
 
-      pub store-done : (p x : ℕ) (f : Effect) (c : Bool) (fault : ℕ) (t : State) → q ≡ At p → f .words ≡ three x 0 0
+      pub store-done : (p x : ℕ) (f : Effect) (c : Bool) (fault : ℕ) (t : Processor) → q ≡ At p → f .words ≡ three x 0 0
           → executed (contextOf s) n (operandWords s m g n) ≡ f → c ≡ true → t ≡ affected s f → Ended s m g n c fault t (set m p x)
       unfolding stored andThen putAt
       store-done p x f c fault t h y z r j =
           ended-clear f c fault t (set m p x) unread (placed ∙ ap (λ (u : Place). andThen u Clear) h) z r j
-          (rw (writes, y) (sym (one-written (keyOf (s .sw)) (groupOf (s .sw)) g (length m) (n .address) x m ∙ ap (λ (u : Place). putAt m u x) (looked ∙ h))))
+          (rw (writes, y) (sym (one-written (keyOf (s .core .sw)) (groupOf (s .core .sw)) g (length m) (n .address) x m ∙ ap (λ (u : Place). putAt m u x) (looked ∙ h))))
 
-      pub store-refused : (b : ℕ) (c : Bool) (fault : ℕ) (t : State) → q ≡ Refused b → c ≡ false → fault ≡ b → t ≡ s → Ended s m g n c fault t m
+      pub store-refused : (b : ℕ) (c : Bool) (fault : ℕ) (t : Processor) → q ≡ Refused b → c ≡ false → fault ≡ b → t ≡ s → Ended s m g n c fault t m
       unfolding both andThen
       store-refused b c fault t h r y j =
           ended-refused c fault t (rw (unread, placed, h, y) refl) r j
 
     -- two
-    module _ (key group : ℕ) (d : key ≡ keyOf (s .sw)) (e : group ≡ groupOf (s .sw)) (writes : writesOf (s .regs) n ≡ spanFrom (n .address) 2) where
+    module _ (key group : ℕ) (d : key ≡ keyOf (s .core .sw)) (e : group ≡ groupOf (s .core .sw)) (writes : writesOf (s .regs) n ≡ spanFrom (n .address) 2) where
       abbrev at : ℕ → Place
       at a = lookup Write key group g (length m) a
 
       both-placed : writing ≡ andThen (at (n .address)) (andThen (at (wrapped (n .address + 1))) Clear)
       both-placed = rw (writes, ← d, ← e) (two-checked key group g (length m) (n .address) Write)
 
-      pub pair-done : (p q x y : ℕ) (f : Effect) (c : Bool) (fault : ℕ) (t : State) → at (n .address) ≡ At p → at (wrapped (n .address + 1)) ≡ At q → f .words ≡ three x y 0
+      pub pair-done : (p q x y : ℕ) (f : Effect) (c : Bool) (fault : ℕ) (t : Processor) → at (n .address) ≡ At p → at (wrapped (n .address + 1)) ≡ At q → f .words ≡ three x y 0
           → executed (contextOf s) n (operandWords s m g n) ≡ f → c ≡ true → t ≡ affected s f → Ended s m g n c fault t (set (set m p x) q y)
       unfolding stored andThen putAt
       pair-done p q x y f c fault t h i k z r j =
           ended-clear f c fault t (set (set m p x) q y) unread (both-placed ∙ rw (h, i) refl) z r j
           (rw (writes, k, ← d, ← e) (sym (two-written key group g (length m) (n .address) x y m ∙ rw (h, i) refl)))
 
-      pub pair-refused : (b : ℕ) (c : Bool) (fault : ℕ) (t : State) → andThen (at (n .address)) (andThen (at (wrapped (n .address + 1))) Clear) ≡ Fault b
+      pub pair-refused : (b : ℕ) (c : Bool) (fault : ℕ) (t : Processor) → andThen (at (n .address)) (andThen (at (wrapped (n .address + 1))) Clear) ≡ Fault b
           → c ≡ false → fault ≡ b → t ≡ s → Ended s m g n c fault t m
       unfolding both
       pair-refused b c fault t h r y j = ended-refused c fault t (rw (unread, both-placed, h, y) refl) r j

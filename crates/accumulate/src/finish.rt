@@ -16,25 +16,14 @@ pub fn done(core: Core, ic: u16, cs: u16, bits: u16) -> Ending
     ensures { λ r. ⌜ (r .clear ≡ true) × ((regs : List ℕ) (e : Effect) → e .ic ≡ ic → e .cs ≡ cs → e .pi ≡ bitOr (core .pi) bits
         → joined (r .core) (e .regs) ≡ affected (joined core regs) e) ⌝ }
 {
-    let sw = with_cs(core.sw, cs);
-    let after = Core {
-        ic,
-        sw,
-        mk: core.mk,
-        pi: core.pi | bits,
-        ft: core.ft,
-        enabled: core.enabled,
-        hold: core.hold,
-        ta: core.ta,
-        tb: core.tb,
-        taon: core.taon,
-        tbon: core.tbon,
-        count: core.count,
-    };
+    let mut t = core;
+    t.ic = ic;
+    t.sw = with_cs(core.sw, cs);
+    t.pi = core.pi | bits;
     Ending {
         clear: true,
         fault: 0,
-        core: after,
+        core: t,
     }
 }
 

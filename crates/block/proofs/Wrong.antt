@@ -6,8 +6,8 @@ use lib.ListN.{replicate}
 use Rattle.choice.specs.Table.{tableOf}
 use Rattle.choice.proofs.Rows.{Row, one, some, hold}
 use Rattle.page.specs.Spans.{wordsOf}
-use Rattle.machine.specs.declared.State.{State}
 use Rattle.machine.specs.declared.Instruction.{Instruction}
+use Rattle.machine.specs.State.{Processor, processor}
 use Rattle.machine.specs.Step.{stored}
 use Rattle.machine.proofs.Opened.{machinery}
 use Rattle.machine.proofs.Samples.{stateAt}
@@ -19,8 +19,8 @@ use Rattle.isa.proofs.OpenWords.{words}
 use Rattle.isa.proofs.OpenInstructions.{instructions}
 
 -- R0 to R15 hold 100 to 115
-abbrev s : State
-s = stateAt (tableOf (λ k. 100 + k) 0 16) 0 0
+abbrev p : Processor
+p = processor (stateAt (tableOf (λ k. 100 + k) 0 16) 0 0)
 
 -- every page register is 0
 abbrev g : List ℕ
@@ -34,10 +34,10 @@ pub rows : List Row
 unfolding words machinery instructions
 rows =
     -- block: STM of one register too few; STM from the word before the address on
-    some (stored s (replicate 5 0) g (executed (contextOf s) n (wordsOf 0 0 g 5 (readsOf (s .regs) n) (replicate 5 0))) (writesOf (s .regs) n))
+    some (stored (p .core) (replicate 5 0) g (executed (contextOf p) n (wordsOf 0 0 g 5 (readsOf (p .regs) n) (replicate 5 0))) (writesOf (p .regs) n))
     (0 ∷ 100 ∷ 101 ∷ 102 ∷ 0 ∷ []) (0 ∷ 100 ∷ 101 ∷ 0 ∷ 0 ∷ []) (100 ∷ 101 ∷ 102 ∷ 0 ∷ 0 ∷ [])
     -- stores::pushed_word: R15 as it was before PSHM; R15 as it is after one word too few
-    ∷ one (pushedWord (s .regs) 15 2) 112 115 113
+    ∷ one (pushedWord (p .regs) 15 2) 112 115 113
     ∷ []
 
 pub rows-hold : T (hold rows)

@@ -9,6 +9,7 @@ use lib.Dec.{ltb}
 use lib.ListN.{length, take, getD, length-append}
 use borrow.Author.Tests.{eq-eqb, ne-eqb}
 use Rattle.machine.specs.declared.State.{State}
+use Rattle.machine.specs.declared.Core.{Core}
 use Rattle.report.specs.Report.{hex, leading, decimal, stepsLine, named, controlLine, registers, registersLine, reportOf, Wrote, Text}
 use Rattle.report.proofs.WroteLaws.{then, shown}
 use Rattle.vector.specs.Texts.{caseLine, timeLine, entryLine, numberedLine}
@@ -44,11 +45,11 @@ case-short n answer = simp length-append (omega (arith, decimal-short n, decimal
 
 pub time-short : (s : State) → length (timeLine s) ≤ 44
 unfolding timeLine hex
-time-short s = simp length-append (omega (arith, decimal-short (s .count)))
+time-short s = simp length-append (omega (arith, decimal-short (s .clock .count)))
 
-control-long : (s : State) → length (controlLine s) ≡ 40
+control-long : (c : Core) → length (controlLine c) ≡ 40
 unfolding controlLine named hex
-control-long s = refl
+control-long c = refl
 
 registers-long : (regs : List ℕ) (first : ℕ) → length (registersLine regs first) ≡ 43
 unfolding registersLine registers hex
@@ -57,7 +58,7 @@ registers-long regs first = refl
 pub report-short : (steps : ℕ) (s : State) → length (reportOf steps s) ≤ 143
 unfolding reportOf stepsLine
 report-short steps s =
-    simp length-append (omega (arith, decimal-short steps, control-long s, registers-long (s .regs) 0, registers-long (s .regs) 8))
+    simp length-append (omega (arith, decimal-short steps, control-long (s .core), registers-long (s .regs) 0, registers-long (s .regs) 8))
 
 pub entry-long : (k n w : ℕ) → length (entryLine k n w) ≡ 12
 unfolding entryLine hex

@@ -1,4 +1,4 @@
--- The state some ticks later is reached tick by tick. Assumes nothing.
+-- The clock some ticks later is reached tick by tick. Assumes nothing.
 use Prim.Native.Nat.{ℕ, _+_, _-_, _/_, _%_, _≤_}
 use mathlib.Core.Path.{_≡_, refl, sym, _∙_}
 use mathlib.Core.Bool.{Bool, true, false, cond, _&&_}
@@ -8,9 +8,9 @@ use lib.Dec.{eqb}
 use borrow.Author.Tests.{eqb-true, eqb-false, ne-eqb}
 use Rattle.page.specs.Spans.{wrapped}
 use Rattle.machine.specs.declared.State.{State}
-use Rattle.machine.specs.declared.Core.{Core}
-use Rattle.machine.specs.State.{withPi, withTa, withTb, withCount}
-use Rattle.machine.specs.Step.{counted, risesB, risen, passing, ticked}
+use Rattle.machine.specs.declared.Clock.{Clock}
+use Rattle.machine.specs.State.{withClock, withPi, withTa, withTb, withCount}
+use Rattle.machine.specs.Step.{counted, risesB, risen, passing, elapsed, expired, ticked}
 use Rattle.clock.specs.Later.{Calm, later}
 
 -- a timer that runs or not, at t + n, rises to t + n + 1
@@ -59,46 +59,39 @@ passing-tens true false c t n k h = refl
 passing-tens false b c t n k h = refl
 
 -- one tick more
-pub ticked-later : (s : State) (n : ℕ) → (s .taon ≡ true → s .ta + (n + 1) ≤ 65535) → (s .tbon ≡ true → s .tb + (n + 1) ≤ 65535) → s .count + (n + 1) ≤ 4294967295
-    → ticked (later n s) ≡ later (n + 1) s
-unfolding ticked counted risesB withPi withTa withTb withCount
-ticked-later s n a b c =
-    let counts : (s .count + n + 1) % 4294967296 ≡ s .count + n + 1 = omega arith in
-    let same : s .count + n + 1 ≡ s .count + (n + 1) = omega arith in
-    rw (
-      counts,
-      passing-on (s .taon) (s .ta) n 7 a,
-      passing-tens (s .tbon) (eqb ((s .count + n + 1) % 10) 0) (s .count) (s .tb) n 9 b,
-      or-zero-r (s .pi),
-      or-zero-r (s .pi),
-      risen-on (s .taon) (s .ta) n a,
-      risen-tens (s .tbon) (s .count) (s .tb) n b,
-      same,
-    ) refl
+pub elapsed-later : (c : Clock) (n : ℕ) → Calm (n + 1) c → elapsed (later n c) ≡ later (n + 1) c
+unfolding elapsed counted risesB withTa withTb withCount
+elapsed-later c n k =
+    let inside = k .count-inside in
+    let counts : (c .count + n + 1) % 4294967296 ≡ c .count + n + 1 = omega arith in
+    let same : c .count + n + 1 ≡ c .count + (n + 1) = omega arith in
+    rw (counts, risen-on (c .taon) (c .ta) n (k .a-inside), risen-tens (c .tbon) (c .count) (c .tb) n (k .b-inside), same) refl
+
+pub expired-later : (c : Clock) (n : ℕ) → Calm (n + 1) c → expired (later n c) ≡ 0
+unfolding expired risesB
+expired-later c n k =
+    rw (passing-on (c .taon) (c .ta) n 7 (k .a-inside), passing-tens (c .tbon) (eqb (counted (later n c) % 10) 0) (c .count) (c .tb) n 9 (k .b-inside)) refl
+
+-- of a state with this clock
+pub ticked-later : (s : State) (c : Clock) (n : ℕ) → Calm (n + 1) c → ticked (withClock s (later n c)) ≡ withClock s (later (n + 1) c)
+unfolding ticked withPi
+ticked-later s c n k = rw (expired-later c n k, or-zero-r (s .core .pi), elapsed-later c n k) refl
 
 raised-none : (on : Bool) (t : ℕ) (k : ℕ) → k ≡ 0 → cond on (t + k) t ≡ t
 raised-none true t k h = omega arith
 raised-none false t k h = refl
 
 -- no tick
-pub later-none : (s : State) → later 0 s ≡ s
-later-none s =
-    let none : (s .count + 0) / 10 - s .count / 10 ≡ 0 = omega arith in
-    let same : s .count + 0 ≡ s .count = omega arith in
-    rw (raised-none (s .taon) (s .ta) 0 refl, raised-none (s .tbon) (s .tb) ((s .count + 0) / 10 - s .count / 10) none, same) refl
+pub later-none : (c : Clock) → later 0 c ≡ c
+later-none c =
+    let none : (c .count + 0) / 10 - c .count / 10 ≡ 0 = omega arith in
+    let same : c .count + 0 ≡ c .count = omega arith in
+    rw (raised-none (c .taon) (c .ta) 0 refl, raised-none (c .tbon) (c .tb) ((c .count + 0) / 10 - c .count / 10) none, same) refl
 
 -- fewer ticks
-pub calm-fewer : (m n : ℕ) (c : Core) → m ≤ n → Calm n c → Calm m c
+pub calm-fewer : (m n : ℕ) (c : Clock) → m ≤ n → Calm n c → Calm m c
 calm-fewer m n c h k = record {
   a-inside = λ e. let b = k .a-inside e in omega arith;
   b-inside = λ e. let b = k .b-inside e in omega arith;
   count-inside = let b = k .count-inside in omega arith;
-}
-
--- cores with the same time
-pub calm-alike : (n : ℕ) (c d : Core) → d .ta ≡ c .ta → d .tb ≡ c .tb → d .taon ≡ c .taon → d .tbon ≡ c .tbon → d .count ≡ c .count → Calm n c → Calm n d
-calm-alike n c d ta tb aon bon count k = record {
-  a-inside = λ on. rw ta (k .a-inside (sym aon ∙ on));
-  b-inside = λ on. rw tb (k .b-inside (sym bon ∙ on));
-  count-inside = rw count (k .count-inside);
 }

@@ -1,2 +1,2 @@
--- The definition of a state some ticks later.
+-- The definition of a clock some ticks later.
 pub mod Later

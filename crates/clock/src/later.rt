@@ -1,11 +1,9 @@
-// Several ticks at once, for ticks in which no timer passes its end, with any registers.
+// Several ticks at once, for ticks in which no timer passes its end.
 ghost use mathlib.Core.Path.{_≡_};
 ghost use mathlib.Core.Bool.{true, cond};
-ghost use mathlib.Core.List.{List};
-ghost use Prim.Native.Nat.{ℕ, _+_, _≤_};
-ghost use Rattle.machine.specs.State.{joined};
+ghost use Prim.Native.Nat.{_+_, _≤_};
 ghost use Rattle.clock.specs.Later.{Calm, later, roomOf, quietOf};
-use machine::Core;
+use machine::Clock;
 
 // A timer n ticks later, where it runs and does not pass its end.
 fn raised(on: bool, t: u16, n: u32) -> u16
@@ -18,29 +16,18 @@ fn raised(on: bool, t: u16, n: u32) -> u16
     t
 }
 
-// The core n ticks later. Callers know that they are calm.
-pub fn tick_by(core: Core, n: u32) -> Core
-    requires { ⌜ Calm n core ⌝ }
-    ensures { λ r. ⌜ ((regs : List ℕ) → joined r regs ≡ later n (joined core regs)) ⌝ }
+// The clock n ticks later. Callers know that they are calm.
+pub fn tick_by(clock: Clock, n: u32) -> Clock
+    requires { ⌜ Calm n clock ⌝ }
+    ensures { λ r. ⌜ r ≡ later n clock ⌝ }
 {
-    let count = core.count + n;
-    let tens = count / 10 - core.count / 10;
-    let ta = raised(core.taon, core.ta, n);
-    let tb = raised(core.tbon, core.tb, tens);
-    Core {
-        ic: core.ic,
-        sw: core.sw,
-        mk: core.mk,
-        pi: core.pi,
-        ft: core.ft,
-        enabled: core.enabled,
-        hold: core.hold,
-        ta: ta,
-        tb: tb,
-        taon: core.taon,
-        tbon: core.tbon,
-        count: count,
-    }
+    let count = clock.count + n;
+    let tens = count / 10 - clock.count / 10;
+    let mut t = clock;
+    t.ta = raised(clock.taon, clock.ta, n);
+    t.tb = raised(clock.tbon, clock.tb, tens);
+    t.count = count;
+    t
 }
 
 // At most n ticks in which a timer at t does not pass its end.
@@ -57,12 +44,12 @@ fn room(on: bool, t: u16, n: u32) -> u32
 }
 
 // At most n calm ticks.
-pub fn quiet(core: Core, n: u32) -> u32
-    ensures { λ r. ⌜ (r ≡ quietOf core n) × (r ≤ n) × Calm r core ⌝ }
+pub fn quiet(clock: Clock, n: u32) -> u32
+    ensures { λ r. ⌜ (r ≡ quietOf clock n) × (r ≤ n) × Calm r clock ⌝ }
 {
-    let first = room(core.taon, core.ta, n);
-    let most = room(core.tbon, core.tb, first);
-    let end = 4294967295 - core.count;
+    let first = room(clock.taon, clock.ta, n);
+    let most = room(clock.tbon, clock.tb, first);
+    let end = 4294967295 - clock.count;
     if end < most {
         return end;
     }

@@ -1,53 +1,43 @@
-// The state after a fault, with the hold mark cleared, and at the end of a step (Scope, "One step", 2, 3 and 6), with any registers.
+// The core after a fault and with the hold mark cleared, and the clock at the end of a step (Scope, "One step", 2, 3 and 6).
 ghost use mathlib.Core.Path.{_≡_};
 ghost use mathlib.Core.Bool.{cond, _&&_};
-ghost use mathlib.Core.List.{List};
-ghost use Prim.Native.Nat.{ℕ, _%_};
+ghost use Prim.Native.Nat.{_%_};
+ghost use lib.Bits.{bitOr};
 ghost use lib.Dec.{eqb};
-ghost use Rattle.machine.specs.State.{joined};
-ghost use Rattle.machine.specs.Step.{released, faulted, risen, ticked};
+ghost use Rattle.machine.specs.State.{withPi};
+ghost use Rattle.machine.specs.Step.{released, faulted, risen, elapsed, expired};
+use machine::Clock;
 use machine::Core;
 use std::num::wrapping_add_u16;
 use std::num::wrapping_add_u32;
 
 // The hold mark is cleared.
 pub fn release(core: Core) -> Core
-    ensures { λ r. ⌜ ((regs : List ℕ) → joined r regs ≡ released (joined core regs)) ⌝ }
+    ensures { λ r. ⌜ r ≡ released core ⌝ }
 {
-    Core {
-        ic: core.ic,
-        sw: core.sw,
-        mk: core.mk,
-        pi: core.pi,
-        ft: core.ft,
-        enabled: core.enabled,
-        hold: false,
-        ta: core.ta,
-        tb: core.tb,
-        taon: core.taon,
-        tbon: core.tbon,
-        count: core.count,
-    }
+    let mut t = core;
+    t.hold = false;
+    t
 }
 
 // A fault sets its FT bit b and PI bit 1, and leaves IC at a.
 pub fn fault(core: Core, b: u16, a: u16) -> Core
-    ensures { λ r. ⌜ ((regs : List ℕ) → joined r regs ≡ faulted (joined core regs) b a) ⌝ }
+    ensures { λ r. ⌜ r ≡ faulted core b a ⌝ }
 {
-    Core {
-        ic: a,
-        sw: core.sw,
-        mk: core.mk,
-        pi: core.pi | 0x4000,
-        ft: core.ft | b,
-        enabled: core.enabled,
-        hold: core.hold,
-        ta: core.ta,
-        tb: core.tb,
-        taon: core.taon,
-        tbon: core.tbon,
-        count: core.count,
-    }
+    let mut t = core;
+    t.ic = a;
+    t.pi = core.pi | 0x4000;
+    t.ft = core.ft | b;
+    t
+}
+
+// More PI bits.
+pub fn pend(core: Core, bits: u16) -> Core
+    ensures { λ r. ⌜ r ≡ withPi core (bitOr (core .pi) bits) ⌝ }
+{
+    let mut t = core;
+    t.pi = core.pi | bits;
+    t
 }
 
 // A timer, whether it rises or not.
@@ -83,28 +73,23 @@ fn rises_b(on: bool, count: u32) -> bool
     false
 }
 
-// The end of a step: the counter, then the timers.
-pub fn tick(core: Core) -> Core
-    ensures { λ r. ⌜ ((regs : List ℕ) → joined r regs ≡ ticked (joined core regs)) ⌝ }
+// The clock at the end of a step: the counter, then the timers.
+pub fn elapse(clock: Clock) -> Clock
+    ensures { λ r. ⌜ r ≡ elapsed clock ⌝ }
 {
-    let count = wrapping_add_u32(core.count, 1);
-    let on = rises_b(core.tbon, count);
-    let passed_a = pass(core.taon, core.ta, 0x0100);
-    let passed_b = pass(on, core.tb, 0x0040);
-    let ta = rise(core.taon, core.ta);
-    let tb = rise(on, core.tb);
-    Core {
-        ic: core.ic,
-        sw: core.sw,
-        mk: core.mk,
-        pi: core.pi | passed_a | passed_b,
-        ft: core.ft,
-        enabled: core.enabled,
-        hold: core.hold,
-        ta: ta,
-        tb: tb,
-        taon: core.taon,
-        tbon: core.tbon,
-        count: count,
-    }
+    let count = wrapping_add_u32(clock.count, 1);
+    let on = rises_b(clock.tbon, count);
+    let mut t = clock;
+    t.ta = rise(clock.taon, clock.ta);
+    t.tb = rise(on, clock.tb);
+    t.count = count;
+    t
+}
+
+// The PI bits of the timers that pass their end there.
+pub fn expire(clock: Clock) -> u16
+    ensures { λ r. ⌜ r ≡ expired clock ⌝ }
+{
+    let on = rises_b(clock.tbon, wrapping_add_u32(clock.count, 1));
+    pass(clock.taon, clock.ta, 0x0100) | pass(on, clock.tb, 0x0040)
 }

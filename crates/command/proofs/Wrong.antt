@@ -1,15 +1,18 @@
 -- Two wrong answers of each contract that other crates call, beside the right one, which the checker computes. Assumes nothing.
 use Prim.Native.Nat.{ℕ}
+use mathlib.Core.Bool.{false}
 use mathlib.Core.List.{List, [], _∷_}
 use lib.Dec.{T}
 use lib.ListN.{getD, replicate}
-use Rattle.choice.proofs.Rows.{Row, some, hold}
+use Rattle.choice.proofs.Rows.{Row, some, hold, flag}
 use Rattle.machine.specs.declared.State.{State}
 use Rattle.machine.specs.declared.Instruction.{Instruction}
+use Rattle.machine.specs.State.{withClock, withTbOn}
 use Rattle.machine.specs.Machine.{Supervised, done, refused}
 use Rattle.machine.proofs.Opened.{machinery}
 use Rattle.machine.proofs.Samples.{stateAt}
 use Rattle.isa.proofs.OpenInstructions.{instructions}
+use Rattle.isa.specs.Commands.{isTimer, timerCommand}
 use Rattle.command.specs.Outcome.{transferred}
 
 -- R1 holds 7
@@ -22,7 +25,7 @@ n = record { form = 0x2801; first = 0x4810; second = 0x5202; address = 0x5202 }
 
 -- IC, and the page registers 2, 257 and 258; the FT bit of a refusal
 abbrev shown : Supervised → List ℕ
-shown (done r) = r .state .ic ∷ getD (r .pages) 2 0 ∷ getD (r .pages) 257 0 ∷ getD (r .pages) 258 0 ∷ []
+shown (done r) = r .state .core .ic ∷ getD (r .pages) 2 0 ∷ getD (r .pages) 257 0 ∷ getD (r .pages) 258 0 ∷ []
 shown (refused b) = b ∷ []
 
 pub rows : List Row
@@ -30,6 +33,11 @@ unfolding machinery instructions
 rows =
     -- transfer: WOPR of the page register before; WOPR to the instruction set
     some (shown (transferred s (replicate 512 0) (replicate 1024 0) n)) (0x0101 ∷ 0 ∷ 0 ∷ 7 ∷ []) (0x0101 ∷ 0 ∷ 7 ∷ 0 ∷ []) (0x0101 ∷ 7 ∷ 0 ∷ 0 ∷ [])
+    -- timers::is_timer: 400B as a timer command; ITB as none
+    ∷ some (flag (isTimer 0x400B) ∷ flag (isTimer 0xC00E) ∷ []) (0 ∷ 1 ∷ []) (1 ∷ 1 ∷ []) (0 ∷ 0 ∷ [])
+    -- timers::time: OTB sets timer A; OTB leaves timer B halted
+    ∷ some (let t = timerCommand (withClock s (withTbOn (s .clock) false)) 1 0x400E .clock in t .ta ∷ t .tb ∷ flag (t .tbon) ∷ [])
+    (0 ∷ 7 ∷ 1 ∷ []) (7 ∷ 0 ∷ 0 ∷ []) (0 ∷ 7 ∷ 0 ∷ [])
     ∷ []
 
 pub rows-hold : T (hold rows)

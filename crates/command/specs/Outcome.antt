@@ -4,7 +4,7 @@ use mathlib.Core.Path.{_≡_}
 use mathlib.Core.List.{List}
 use Rattle.machine.specs.declared.State.{State}
 use Rattle.machine.specs.declared.Instruction.{Instruction}
-use Rattle.machine.specs.State.{joined}
+use Rattle.machine.specs.State.{joined, withCore, withProcessor}
 use Rattle.machine.specs.Machine.{Supervised, done, refused}
 use Rattle.isa.specs.Fields.{fieldA, register}
 use Rattle.isa.specs.Commands.{resumed, commanded}
@@ -13,12 +13,12 @@ use Rattle.command.specs.declared.Governed.the-variants.{Done, Refused}
 
 -- XIO alone, of the privileged operations: its command is its immediate operand, from the contents of RA
 abbrev pub transferred : State → List ℕ → List ℕ → Instruction → Supervised
-transferred s g o n = commanded (resumed s n) g o n (register (s .regs) (fieldA (n .first))) (n .address)
+transferred s g o n = commanded (withCore s (resumed (s .core) n)) g o n (register (s .regs) (fieldA (n .first))) (n .address)
 
--- with the registers r, the page registers g and the ports o afterwards
-unfoldable pub governed : Governed → List ℕ → List ℕ → List ℕ → Supervised
-governed (Done c) r g o = done (record { state = joined c r; pages = g; ports = o })
-governed (Refused b) r g o = refused b
+-- from the state s, with the registers r, the page registers g and the ports o afterwards
+unfoldable pub governed : State → Governed → List ℕ → List ℕ → List ℕ → Supervised
+governed s (Done c) r g o = done (record { state = withProcessor s (joined c r); pages = g; ports = o })
+governed s (Refused b) r g o = refused b
 
 -- a refused command leaves the list x: afterwards it is y
 unfoldable pub Kept : Governed → List ℕ → List ℕ → Type 0

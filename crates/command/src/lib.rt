@@ -1,13 +1,17 @@
-// XIO (5.1), the privileged operation that carries out a command.
+// XIO (5.1), the privileged operation that carries out a command. The timer commands, which see and set the clock, are apart.
 ghost use mathlib.Core.Path.{_≡_};
+ghost use mathlib.Core.Bool.{false};
 ghost use lib.ListN.{length};
-ghost use Rattle.machine.specs.State.{joined};
+ghost use Rattle.machine.specs.declared.State.{State};
+ghost use Rattle.machine.specs.State.{joined, withProcessor};
+ghost use Rattle.isa.specs.Commands.{isTimer};
 ghost use Rattle.command.specs.Outcome.{transferred, governed, Kept};
 use access::fields::field_a;
 use access::fields::get;
 use machine::Core;
 use machine::Instruction;
 
+pub mod timers;
 mod xio;
 
 // The command is done, and leaves this core; or it is refused with an FT bit, and nothing is changed.
@@ -16,7 +20,7 @@ pub enum Governed {
     Refused(u16),
 }
 
-// XIO n: the command in its derived operand.
+// XIO n: the command in its derived operand, which is no timer command; whatever the clock is.
 pub fn transfer(
     core: Core,
     regs: &mut [u16; 16],
@@ -24,9 +28,9 @@ pub fn transfer(
     ports: &mut [u16],
     n: Instruction,
 ) -> Governed
-    requires { ⌜ (length (now pages) ≡ 512) × (length (now ports) ≡ 1024) ⌝ }
-    ensures { λ r. ⌜ (governed r (now (regs .exit)) (now (pages .exit)) (now (ports .exit))
-        ≡ transferred (joined core (now (regs .entry))) (now (pages .entry)) (now (ports .entry)) n)
+    requires { ⌜ (length (now pages) ≡ 512) × (length (now ports) ≡ 1024) × (isTimer (n .address) ≡ false) ⌝ }
+    ensures { λ r. ⌜ ((s : State) → governed s r (now (regs .exit)) (now (pages .exit)) (now (ports .exit))
+        ≡ transferred (withProcessor s (joined core (now (regs .entry)))) (now (pages .entry)) (now (ports .entry)) n)
         × Kept r (now (regs .entry)) (now (regs .exit)) × Kept r (now (pages .entry)) (now (pages .exit)) × Kept r (now (ports .entry)) (now (ports .exit)) ⌝ }
 {
     let next = control::resume(core, n);

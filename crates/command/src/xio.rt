@@ -1,13 +1,15 @@
 // XIO's commands (5.1), for the core at the next instruction. Those below 8000 are outputs: they take the contents of RA and leave the
 // registers; the others are inputs: they set RA and leave page registers and ports. Callers have 512 page registers and 1024 ports.
 ghost use mathlib.Core.Path.{_≡_};
+ghost use mathlib.Core.Bool.{false};
 ghost use mathlib.Core.List.{List};
 ghost use Prim.Native.Nat.{ℕ, _<_, _≤_};
 ghost use lib.ListN.{length};
 ghost use Rattle.machine.specs.declared.Instruction.{Instruction};
-ghost use Rattle.machine.specs.State.{joined};
+ghost use Rattle.machine.specs.declared.State.{State};
+ghost use Rattle.machine.specs.State.{joined, withProcessor};
 ghost use Rattle.isa.specs.Fields.{fieldA, withRegister};
-ghost use Rattle.isa.specs.Commands.{stateCommand, commanded};
+ghost use Rattle.isa.specs.Commands.{coreCommand, isTimer, commanded};
 ghost use Rattle.command.specs.Outcome.{governed, Kept};
 use crate::Governed;
 use access::fields::field_a;
@@ -19,15 +21,13 @@ use control::set_enabled;
 use control::set_mask;
 use control::set_pending;
 use control::set_status;
-use control::set_timer_a;
-use control::set_timer_b;
 use machine::Core;
 use machine::Instruction;
 
-// The outputs to the state: SMK CLIR ENBL DSBL RPI SPI WSW, TAS TAH OTA TBS TBH OTB.
-fn state_output(core: Core, ra: u16, command: u16) -> Governed
+// The outputs to the core: SMK CLIR ENBL DSBL RPI SPI WSW.
+fn core_output(core: Core, ra: u16, command: u16) -> Governed
     requires { ⌜ command < 0x8000 ⌝ }
-    ensures { λ r. ⌜ ((regs g o : List ℕ) (n : Instruction) → governed r regs g o ≡ stateCommand (joined core regs) g o n ra command) ⌝ }
+    ensures { λ r. ⌜ ((s : State) (regs g o : List ℕ) (n : Instruction) → governed s r regs g o ≡ coreCommand (withProcessor s (joined core regs)) g o n ra command) ⌝ }
 {
     match command {
         0x2000 => Governed::Done(set_mask(core, ra)),
@@ -37,17 +37,11 @@ fn state_output(core: Core, ra: u16, command: u16) -> Governed
         0x2004 => Governed::Done(reset_pending(core, ra % 16)),
         0x2005 => Governed::Done(hold_pending(core, ra)),
         0x200E => Governed::Done(set_status(core, ra)),
-        0x4008 => Governed::Done(set_timer_a(core, core.ta, true)),
-        0x4009 => Governed::Done(set_timer_a(core, core.ta, false)),
-        0x400A => Governed::Done(set_timer_a(core, ra, true)),
-        0x400C => Governed::Done(set_timer_b(core, core.tb, true)),
-        0x400D => Governed::Done(set_timer_b(core, core.tb, false)),
-        0x400E => Governed::Done(set_timer_b(core, ra, true)),
         _ => Governed::Refused(0x0400),
     }
 }
 
-// All outputs: PO WIPR WOPR by their ranges, and between them those to the state.
+// All outputs: PO WIPR WOPR by their ranges, and between them those to the core.
 pub(crate) fn output(
     core: Core,
     pages: &mut [u16],
@@ -55,9 +49,9 @@ pub(crate) fn output(
     ra: u16,
     command: u16,
 ) -> Governed
-    requires { ⌜ (length (now pages) ≡ 512) × (length (now ports) ≡ 1024) × (command < 0x8000) ⌝ }
-    ensures { λ r. ⌜ ((regs : List ℕ) (n : Instruction)
-        → governed r regs (now (pages .exit)) (now (ports .exit)) ≡ commanded (joined core regs) (now (pages .entry)) (now (ports .entry)) n ra command)
+    requires { ⌜ (length (now pages) ≡ 512) × (length (now ports) ≡ 1024) × (command < 0x8000) × (isTimer command ≡ false) ⌝ }
+    ensures { λ r. ⌜ ((s : State) (regs : List ℕ) (n : Instruction)
+        → governed s r regs (now (pages .exit)) (now (ports .exit)) ≡ commanded (withProcessor s (joined core regs)) (now (pages .entry)) (now (ports .entry)) n ra command)
         × Kept r (now (pages .entry)) (now (pages .exit)) × Kept r (now (ports .entry)) (now (ports .exit)) ⌝ }
 {
     if command <= 0x03FF {
@@ -65,7 +59,7 @@ pub(crate) fn output(
         return Governed::Done(core);
     }
     if command <= 0x50FF {
-        return state_output(core, ra, command);
+        return core_output(core, ra, command);
     }
     let page = (command % 256) as usize;
     if command <= 0x51FF {
@@ -76,7 +70,7 @@ pub(crate) fn output(
         pages[256 + page] = ra;
         return Governed::Done(core);
     }
-    state_output(core, ra, command)
+    core_output(core, ra, command)
 }
 
 // RA gets the word x.
@@ -86,10 +80,10 @@ fn take(regs: &mut [u16; 16], n: Instruction, x: u16)
     put(regs, field_a(n.first), x);
 }
 
-// The inputs from the state: RMK RPIR RSW RCFR, ITA ITB.
-fn state_input(core: Core, regs: &mut [u16; 16], n: Instruction) -> Governed
+// The inputs from the core: RMK RPIR RSW RCFR.
+fn core_input(core: Core, regs: &mut [u16; 16], n: Instruction) -> Governed
     requires { ⌜ 0x8000 ≤ n .address ⌝ }
-    ensures { λ r. ⌜ ((g o : List ℕ) (ra : ℕ) → governed r (now (regs .exit)) g o ≡ stateCommand (joined core (now (regs .entry))) g o n ra (n .address))
+    ensures { λ r. ⌜ ((s : State) (g o : List ℕ) (ra : ℕ) → governed s r (now (regs .exit)) g o ≡ coreCommand (withProcessor s (joined core (now (regs .entry)))) g o n ra (n .address))
         × Kept r (now (regs .entry)) (now (regs .exit)) ⌝ }
 {
     let command = n.address;
@@ -110,19 +104,11 @@ fn state_input(core: Core, regs: &mut [u16; 16], n: Instruction) -> Governed
             take(regs, n, core.ft);
             Governed::Done(set_pending(core, reset_bit(core.pi, 1), 0))
         }
-        0xC00A => {
-            take(regs, n, core.ta);
-            Governed::Done(core)
-        }
-        0xC00E => {
-            take(regs, n, core.tb);
-            Governed::Done(core)
-        }
         _ => Governed::Refused(0x0400),
     }
 }
 
-// All inputs: PI RIPR ROPR by their ranges, and between them those from the state.
+// All inputs: PI RIPR ROPR by their ranges, and between them those from the core.
 pub(crate) fn input(
     core: Core,
     regs: &mut [u16; 16],
@@ -130,9 +116,9 @@ pub(crate) fn input(
     ports: &[u16],
     n: Instruction,
 ) -> Governed
-    requires { ⌜ (length (now pages) ≡ 512) × (length (now ports) ≡ 1024) × (0x8000 ≤ n .address) ⌝ }
-    ensures { λ r. ⌜ ((ra : ℕ) → governed r (now (regs .exit)) (now (pages .entry)) (now (ports .entry))
-        ≡ commanded (joined core (now (regs .entry))) (now (pages .entry)) (now (ports .entry)) n ra (n .address))
+    requires { ⌜ (length (now pages) ≡ 512) × (length (now ports) ≡ 1024) × (0x8000 ≤ n .address) × (isTimer (n .address) ≡ false) ⌝ }
+    ensures { λ r. ⌜ ((s : State) (ra : ℕ) → governed s r (now (regs .exit)) (now (pages .entry)) (now (ports .entry))
+        ≡ commanded (withProcessor s (joined core (now (regs .entry)))) (now (pages .entry)) (now (ports .entry)) n ra (n .address))
         × Kept r (now (regs .entry)) (now (regs .exit)) ⌝ }
 {
     if n.address <= 0x83FF {
@@ -140,7 +126,7 @@ pub(crate) fn input(
         return Governed::Done(core);
     }
     if n.address <= 0xD0FF {
-        return state_input(core, regs, n);
+        return core_input(core, regs, n);
     }
     let page = (n.address % 256) as usize;
     if n.address <= 0xD1FF {
@@ -151,5 +137,5 @@ pub(crate) fn input(
         take(regs, n, pages[256 + page]);
         return Governed::Done(core);
     }
-    state_input(core, regs, n)
+    core_input(core, regs, n)
 }

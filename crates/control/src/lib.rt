@@ -1,9 +1,8 @@
-// The parts of the state that a privileged operation sets, with any registers.
+// The parts of the core that a privileged operation sets.
 ghost use mathlib.Core.Path.{_≡_};
 ghost use mathlib.Core.Bool.{true};
-ghost use mathlib.Core.List.{List};
-ghost use Prim.Native.Nat.{ℕ, _<_};
-ghost use Rattle.machine.specs.State.{joined, withSw, withMk, withPi, withFt, withEnabled, withHold, withTa, withTb, withTaOn, withTbOn};
+ghost use Prim.Native.Nat.{_<_};
+ghost use Rattle.machine.specs.State.{withSw, withMk, withPi, withFt, withEnabled, withHold};
 ghost use Rattle.isa.specs.Commands.{resumed, pendingReset, statusLoaded};
 use bits::bits::reset_bit;
 use machine::Core;
@@ -11,7 +10,7 @@ use machine::Instruction;
 
 // IC is that of the next instruction.
 pub fn resume(core: Core, n: Instruction) -> Core
-    ensures { λ r. ⌜ ((regs : List ℕ) → joined r regs ≡ resumed (joined core regs) n) ⌝ }
+    ensures { λ r. ⌜ r ≡ resumed core n ⌝ }
 {
     let mut t = core;
     t.ic = effect::following(core.ic, n.form);
@@ -20,7 +19,7 @@ pub fn resume(core: Core, n: Instruction) -> Core
 
 // LST: MK, SW and IC.
 pub fn load_status(core: Core, mk: u16, sw: u16, ic: u16) -> Core
-    ensures { λ r. ⌜ ((regs : List ℕ) → joined r regs ≡ statusLoaded (joined core regs) mk sw ic) ⌝ }
+    ensures { λ r. ⌜ r ≡ statusLoaded core mk sw ic ⌝ }
 {
     let mut t = core;
     t.mk = mk;
@@ -31,7 +30,7 @@ pub fn load_status(core: Core, mk: u16, sw: u16, ic: u16) -> Core
 
 // SMK: MK.
 pub fn set_mask(core: Core, mk: u16) -> Core
-    ensures { λ r. ⌜ ((regs : List ℕ) → joined r regs ≡ withMk (joined core regs) mk) ⌝ }
+    ensures { λ r. ⌜ r ≡ withMk core mk ⌝ }
 {
     let mut t = core;
     t.mk = mk;
@@ -40,7 +39,7 @@ pub fn set_mask(core: Core, mk: u16) -> Core
 
 // WSW: SW.
 pub fn set_status(core: Core, sw: u16) -> Core
-    ensures { λ r. ⌜ ((regs : List ℕ) → joined r regs ≡ withSw (joined core regs) sw) ⌝ }
+    ensures { λ r. ⌜ r ≡ withSw core sw ⌝ }
 {
     let mut t = core;
     t.sw = sw;
@@ -49,7 +48,7 @@ pub fn set_status(core: Core, sw: u16) -> Core
 
 // PI and FT.
 pub fn set_pending(core: Core, pi: u16, ft: u16) -> Core
-    ensures { λ r. ⌜ ((regs : List ℕ) → joined r regs ≡ withFt (withPi (joined core regs) pi) ft) ⌝ }
+    ensures { λ r. ⌜ r ≡ withFt (withPi core pi) ft ⌝ }
 {
     let mut t = core;
     t.pi = pi;
@@ -59,7 +58,7 @@ pub fn set_pending(core: Core, pi: u16, ft: u16) -> Core
 
 // SPI: PI, with the hold mark set.
 pub fn hold_pending(core: Core, pending: u16) -> Core
-    ensures { λ r. ⌜ ((regs : List ℕ) → joined r regs ≡ withHold (withPi (joined core regs) pending) true) ⌝ }
+    ensures { λ r. ⌜ r ≡ withHold (withPi core pending) true ⌝ }
 {
     let mut t = core;
     t.pi = pending;
@@ -70,7 +69,7 @@ pub fn hold_pending(core: Core, pending: u16) -> Core
 // RPI: PI bit k is cleared, and for k = 1 FT too. A command's k is a field of four bits.
 pub fn reset_pending(core: Core, k: u16) -> Core
     requires { ⌜ k < 16 ⌝ }
-    ensures { λ r. ⌜ ((regs : List ℕ) → joined r regs ≡ pendingReset (joined core regs) k) ⌝ }
+    ensures { λ r. ⌜ r ≡ pendingReset core k ⌝ }
 {
     let pi = reset_bit(core.pi, k);
     if k == 1 {
@@ -81,30 +80,10 @@ pub fn reset_pending(core: Core, k: u16) -> Core
 
 // Interrupts enabled, and the hold mark.
 pub fn set_enabled(core: Core, enabled: bool, hold: bool) -> Core
-    ensures { λ r. ⌜ ((regs : List ℕ) → joined r regs ≡ withHold (withEnabled (joined core regs) enabled) hold) ⌝ }
+    ensures { λ r. ⌜ r ≡ withHold (withEnabled core enabled) hold ⌝ }
 {
     let mut t = core;
     t.enabled = enabled;
     t.hold = hold;
-    t
-}
-
-// Timer A, and whether it runs.
-pub fn set_timer_a(core: Core, ta: u16, on: bool) -> Core
-    ensures { λ r. ⌜ ((regs : List ℕ) → joined r regs ≡ withTaOn (withTa (joined core regs) ta) on) ⌝ }
-{
-    let mut t = core;
-    t.ta = ta;
-    t.taon = on;
-    t
-}
-
-// Timer B, and whether it runs.
-pub fn set_timer_b(core: Core, tb: u16, on: bool) -> Core
-    ensures { λ r. ⌜ ((regs : List ℕ) → joined r regs ≡ withTbOn (withTb (joined core regs) tb) on) ⌝ }
-{
-    let mut t = core;
-    t.tb = tb;
-    t.tbon = on;
     t
 }

@@ -1,39 +1,49 @@
 // Runs (Scope, "Questions at the door"): the questions, then exactly as many steps as the budget says.
 ghost use mathlib.Core.Path.{_≡_};
 ghost use lib.ListN.{length};
-ghost use Rattle.machine.specs.State.{joined};
+ghost use Rattle.machine.specs.declared.State.{State};
+ghost use Rattle.machine.specs.State.{joined, withProcessor, withClock};
 ghost use Rattle.machine.specs.Machine.{Became, machine};
 ghost use Rattle.machine.specs.Runs.{runOf, numberOf, admission, answerOf, steps, left};
 ghost use Rattle.isa.specs.Mil1750.{mil1750};
 ghost use Rattle.needs.specs.Needs.{numbers};
 use machine::Answer;
+use machine::Clock;
 use machine::Core;
 use machine::State;
 use machine::whole_pages;
+use steps::Rest;
 use steps::go_on;
 
-// As many steps as are told.
+// As many steps as are told: what is left of them is none.
 fn run_steps(
     core: Core,
+    clock: Clock,
     regs: &mut [u16; 16],
     memory: &mut [u16],
     pages: &mut [u16],
     ports: &mut [u16],
     table: &[u32; 256],
     n: u32,
-) -> Core
+) -> Rest
     requires { ⌜ (length (now pages) ≡ 512) × (length (now ports) ≡ 1024) × (now table ≡ numbers) ⌝ }
-    ensures { λ r. ⌜ Became (steps mil1750 n (machine (joined core (now (regs .entry))) (now (memory .entry)) (now (pages .entry)) (now (ports .entry))))
-        (joined r (now (regs .exit))) (now (memory .exit)) (now (pages .exit)) (now (ports .exit)) ⌝ }
+    ensures { λ r. ⌜ ((s : State) → Became (steps mil1750 n (machine (withClock (withProcessor s (joined core (now (regs .entry)))) clock) (now (memory .entry)) (now (pages .entry)) (now (ports .entry))))
+        (withClock (withProcessor s (joined (r .core) (now (regs .exit)))) (r .clock)) (now (memory .exit)) (now (pages .exit)) (now (ports .exit))) ⌝ }
 {
     let mut t = core;
+    let mut u = clock;
     let mut due = n;
     while 0 < due {
-        let rest = go_on(t, regs, memory, pages, ports, table, due);
+        let rest = go_on(t, u, regs, memory, pages, ports, table, due);
         t = rest.core;
+        u = rest.clock;
         due = rest.left;
     }
-    t
+    Rest {
+        core: t,
+        clock: u,
+        left: due,
+    }
 }
 
 // The questions before a run, in their order.
@@ -72,45 +82,15 @@ pub fn number(answer: Answer) -> u16
     }
 }
 
-// A core and the registers as one state.
-fn join(core: Core, regs: [u16; 16]) -> State
-    ensures { λ r. ⌜ r ≡ joined core regs ⌝ }
+// The state with other registers, another core and another clock.
+fn assemble(state: State, regs: [u16; 16], core: Core, clock: Clock) -> State
+    ensures { λ r. ⌜ r ≡ withClock (withProcessor state (joined core regs)) clock ⌝ }
 {
-    State {
-        regs,
-        ic: core.ic,
-        sw: core.sw,
-        mk: core.mk,
-        pi: core.pi,
-        ft: core.ft,
-        enabled: core.enabled,
-        hold: core.hold,
-        ta: core.ta,
-        tb: core.tb,
-        taon: core.taon,
-        tbon: core.tbon,
-        count: core.count,
-    }
-}
-
-// A state without its registers.
-fn part(state: State) -> Core
-    ensures { λ r. ⌜ joined r (state .regs) ≡ state ⌝ }
-{
-    Core {
-        ic: state.ic,
-        sw: state.sw,
-        mk: state.mk,
-        pi: state.pi,
-        ft: state.ft,
-        enabled: state.enabled,
-        hold: state.hold,
-        ta: state.ta,
-        tb: state.tb,
-        taon: state.taon,
-        tbon: state.tbon,
-        count: state.count,
-    }
+    let mut s = state;
+    s.regs = regs;
+    s.core = core;
+    s.clock = clock;
+    s
 }
 
 // What a run hands back.
@@ -131,15 +111,16 @@ pub fn run(
         × Became (left mil1750 (machine state (now (memory .entry)) (now (pages .entry)) (now (ports .entry))) (runOf budget))
         (r .state) (now (memory .exit)) (now (pages .exit)) (now (ports .exit)) ⌝ }
 {
-    let answer = ask(memory.len(), pages.len(), ports.len(), state.count, budget);
+    let core = state.core;
+    let clock = state.clock;
+    let answer = ask(memory.len(), pages.len(), ports.len(), clock.count, budget);
     if number(answer) == 0 {
         let table = needs::table();
         let mut regs = state.regs;
-        let core = part(state);
-        let last = run_steps(core, &mut regs, memory, pages, ports, &table, budget);
+        let last = run_steps(core, clock, &mut regs, memory, pages, ports, &table, budget);
         return Ran {
             answer,
-            state: join(last, regs),
+            state: assemble(state, regs, last.core, last.clock),
         };
     }
     Ran { answer, state }

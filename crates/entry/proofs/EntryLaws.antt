@@ -1,4 +1,4 @@
--- The stores of an entry whose three words lie in one page; an entry from its stores and its state. Assumes nothing.
+-- The stores of an entry whose three words lie in one page; an entry from its stores and its core. Assumes nothing.
 use Prim.Native.Nat.{ℕ, _+_, _-_, _%_, _≤_, _<_}
 use mathlib.Core.Path.{_≡_, refl, sym, ap, _∙_}
 use mathlib.Core.List.{List}
@@ -13,8 +13,9 @@ use Rattle.page.specs.Spans.{wrapped, putAt, andThen, passed, checkedFrom, chec
 use Rattle.page.proofs.NearLaws.{lookup-before}
 use Rattle.page.proofs.ReachLaws.{located-inside}
 use Rattle.machine.specs.declared.State.{State}
+use Rattle.machine.specs.declared.Core.{Core}
 use Rattle.machine.specs.declared.Vector.{Vector}
-use Rattle.machine.specs.State.{groupOf}
+use Rattle.machine.specs.State.{groupOf, withCore}
 use Rattle.machine.specs.Machine.{Became}
 use Rattle.machine.specs.Entries.{oldWords, linked, linkStored, refusalOf, arrived}
 use Rattle.machine.specs.Step.{entered}
@@ -57,17 +58,17 @@ module _ (m g : List ℕ) (group a end p : ℕ) (f : a < 65536) (ends : end ≡ 
     unfolding linked checked checkedFrom passed andThen
     linked-clear = rw (grouped, from, first, second, third) refl
 
-    pub linked-stored : (s : State) → linkStored s m g v Clear ≡ set (set (set m (p - 2) (s .mk)) (p - 1) (s .sw)) p (s .ic)
+    pub linked-stored : (c : Core) → linkStored c m g v Clear ≡ set (set (set m (p - 2) (c .mk)) (p - 1) (c .sw)) p (c .ic)
     unfolding linkStored written writtenFrom passed putAt oldWords
-    linked-stored s = rw (grouped, from, first, second, third) refl
+    linked-stored c = rw (grouped, from, first, second, third) refl
 
 -- ---- an entry
 
-pub entered-by : (s t : State) (m m' g o : List ℕ) (n : ℕ) (v : Vector) (b : ℕ) → b ≡ refusalOf (linked m g v) → m' ≡ linkStored s m g v (linked m g v)
-    → t ≡ arrived s n v (bitOr (v .fault) b) → Became (entered s m g o n v) t m' g o
+pub entered-by : (s : State) (c d : Core) (m m' g o : List ℕ) (n : ℕ) (v : Vector) (b : ℕ) → b ≡ refusalOf (linked m g v)
+    → m' ≡ linkStored c m g v (linked m g v) → d ≡ arrived c n v (bitOr (v .fault) b) → Became (entered s c m g o n v) (withCore s d) m' g o
 unfolding entered
-entered-by s t m m' g o n v b e h f = record {
-  state-is = f ∙ ap (λ (x : ℕ). arrived s n v (bitOr (v .fault) x)) e;
+entered-by s c d m m' g o n v b e h f = record {
+  state-is = ap (withCore s) (f ∙ ap (λ (x : ℕ). arrived c n v (bitOr (v .fault) x)) e);
   memory-is = h;
   pages-is = refl;
   ports-is = refl;

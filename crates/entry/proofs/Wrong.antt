@@ -1,21 +1,19 @@
 -- Two wrong answers of each contract that other crates call, beside the right one, which the checker computes. Assumes nothing.
 use Prim.Native.Nat.{ℕ}
-use mathlib.Core.Bool.{true}
+use mathlib.Core.Bool.{true, false}
 use mathlib.Core.List.{List, [], _∷_}
 use lib.Bits.{bitOr}
 use lib.Dec.{T}
 use lib.ListN.{replicate}
 use Rattle.choice.proofs.Rows.{Row, some, hold, flag}
-use Rattle.machine.specs.declared.State.{State}
+use Rattle.machine.specs.declared.Core.{Core}
 use Rattle.machine.specs.declared.Vector.{Vector}
 use Rattle.machine.specs.Entries.{linked, linkStored, refusalOf, arrived}
 use Rattle.machine.proofs.Opened.{machinery}
-use Rattle.machine.proofs.Samples.{stateAt}
-use Rattle.machine.specs.State.{withMk, withPi, withEnabled}
 
 -- interrupts 5 and 15 are pending
-abbrev s : State
-s = withEnabled (withPi (withMk (stateAt (replicate 16 0) 3 2) 1) 0x0401) true
+abbrev c : Core
+c = record { ic = 3; sw = 2; mk = 1; pi = 0x0401; ft = 0; enabled = true; hold = false }
 
 -- the linkage pointer is 4
 abbrev v : Vector
@@ -30,17 +28,17 @@ abbrev memory : List ℕ
 memory = replicate 6 0
 
 -- IC, SW, MK, PI, FT and interrupts enabled
-abbrev shown : State → List ℕ
+abbrev shown : Core → List ℕ
 shown t = t .ic ∷ t .sw ∷ t .mk ∷ t .pi ∷ t .ft ∷ flag (t .enabled) ∷ []
 
 pub rows : List Row
 unfolding machinery
 rows =
     -- link: two of the three words stored before the refusal; the refusal not told
-    some (refusalOf (linked memory g v) ∷ linkStored s memory g v (linked memory g v))
+    some (refusalOf (linked memory g v) ∷ linkStored c memory g v (linked memory g v))
     (0x0080 ∷ 0 ∷ 0 ∷ 0 ∷ 0 ∷ 0 ∷ 0 ∷ []) (0x0080 ∷ 0 ∷ 0 ∷ 0 ∷ 0 ∷ 1 ∷ 2 ∷ []) (0 ∷ 0 ∷ 0 ∷ 0 ∷ 0 ∷ 0 ∷ 0 ∷ [])
     -- arrive: the PI bit of the interrupt kept; interrupts left enabled
-    ∷ some (shown (arrived s 5 v (bitOr (v .fault) 0x0080)))
+    ∷ some (shown (arrived c 5 v (bitOr (v .fault) 0x0080)))
     (9 ∷ 8 ∷ 7 ∷ 0x4001 ∷ 0x0080 ∷ 0 ∷ []) (9 ∷ 8 ∷ 7 ∷ 0x4401 ∷ 0x0080 ∷ 0 ∷ []) (9 ∷ 8 ∷ 7 ∷ 0x4001 ∷ 0x0080 ∷ 1 ∷ [])
     ∷ []
 

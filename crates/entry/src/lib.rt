@@ -1,11 +1,9 @@
 // The entry of an interrupt, and of the executive by BEX, once its words are read (Scope, "Entry of n"). Callers have 512 page registers,
 // and an interrupt's number of four bits.
 ghost use mathlib.Core.Path.{_≡_};
-ghost use mathlib.Core.List.{List};
-ghost use Prim.Native.Nat.{ℕ, _<_};
+ghost use Prim.Native.Nat.{_<_};
 ghost use lib.ListN.{length};
-ghost use Rattle.machine.specs.declared.State.{State};
-ghost use Rattle.machine.specs.State.{joined};
+ghost use Rattle.machine.specs.declared.Core.{Core};
 ghost use lib.Bits.{bitOr};
 ghost use Rattle.machine.specs.Entries.{linked, linkStored, refusalOf, machineError, arrived};
 use bits::bits::reset_bit;
@@ -31,13 +29,13 @@ fn machine_error(b: u16) -> u16
     0x4000
 }
 
-// Old MK, SW and IC are stored at the linkage pointer a by the new SW, all three or none, for any vector and state with these parts; the FT bit
+// Old MK, SW and IC are stored at the linkage pointer a by the new SW, all three or none, for any vector and core with these parts; the FT bit
 // of the first refusal, or 0. Each word is looked up.
 fn link_each(mk: u16, sw: u16, ic: u16, memory: &mut [u16], pages: &[u16], next: u16, a: u16) -> u16
     requires { ⌜ length (now pages) ≡ 512 ⌝ }
     ensures { λ r. ⌜ ((v : Vector) → v .sw ≡ next → v .link ≡ a → (r ≡ refusalOf (linked (now (memory .entry)) (now (pages .entry)) v))
-        × ((s : State) → s .mk ≡ mk → s .sw ≡ sw → s .ic ≡ ic
-        → now (memory .exit) ≡ linkStored s (now (memory .entry)) (now (pages .entry)) v (linked (now (memory .entry)) (now (pages .entry)) v))) ⌝ }
+        × ((c : Core) → c .mk ≡ mk → c .sw ≡ sw → c .ic ≡ ic
+        → now (memory .exit) ≡ linkStored c (now (memory .entry)) (now (pages .entry)) v (linked (now (memory .entry)) (now (pages .entry)) v))) ⌝ }
 {
     let group = group_of(next);
     let span = Span {
@@ -64,8 +62,8 @@ fn link_each(mk: u16, sw: u16, ic: u16, memory: &mut [u16], pages: &[u16], next:
 pub fn link(mk: u16, sw: u16, ic: u16, memory: &mut [u16], pages: &[u16], next: u16, a: u16) -> u16
     requires { ⌜ length (now pages) ≡ 512 ⌝ }
     ensures { λ r. ⌜ ((v : Vector) → v .sw ≡ next → v .link ≡ a → (r ≡ refusalOf (linked (now (memory .entry)) (now (pages .entry)) v))
-        × ((s : State) → s .mk ≡ mk → s .sw ≡ sw → s .ic ≡ ic
-        → now (memory .exit) ≡ linkStored s (now (memory .entry)) (now (pages .entry)) v (linked (now (memory .entry)) (now (pages .entry)) v))) ⌝ }
+        × ((c : Core) → c .mk ≡ mk → c .sw ≡ sw → c .ic ≡ ic
+        → now (memory .exit) ≡ linkStored c (now (memory .entry)) (now (pages .entry)) v (linked (now (memory .entry)) (now (pages .entry)) v))) ⌝ }
 {
     let end = wrapping_add_u16(a, 2);
     if 2 <= end % 4096 {
@@ -83,26 +81,19 @@ pub fn link(mk: u16, sw: u16, ic: u16, memory: &mut [u16], pages: &[u16], next: 
     link_each(mk, sw, ic, memory, pages, next, a)
 }
 
-// The core after the entry of interrupt n by the vector v, whose stores came to this refusal, with any registers.
+// The core after the entry of interrupt n by the vector v, whose stores came to this refusal.
 pub fn arrive(core: Core, n: u16, v: Vector, refusal: u16) -> Core
     requires { ⌜ n < 16 ⌝ }
-    ensures { λ r. ⌜ ((regs : List ℕ) → joined r regs ≡ arrived (joined core regs) n v (bitOr (v .fault) refusal)) ⌝ }
+    ensures { λ r. ⌜ r ≡ arrived core n v (bitOr (v .fault) refusal) ⌝ }
 {
     let bits = v.fault | refusal;
     let rest = reset_bit(core.pi, n);
-    let error = machine_error(bits);
-    Core {
-        ic: v.ic,
-        sw: v.sw,
-        mk: v.mk,
-        pi: rest | error,
-        ft: core.ft | bits,
-        enabled: false,
-        hold: core.hold,
-        ta: core.ta,
-        tb: core.tb,
-        taon: core.taon,
-        tbon: core.tbon,
-        count: core.count,
-    }
+    let mut t = core;
+    t.ic = v.ic;
+    t.sw = v.sw;
+    t.mk = v.mk;
+    t.pi = rest | machine_error(bits);
+    t.ft = core.ft | bits;
+    t.enabled = false;
+    t
 }

@@ -7,7 +7,8 @@ use lib.Dec.{eqb, leb, ltb}
 use lib.ListN.{length, getD}
 use lib.Seq.{sets}
 use Rattle.machine.specs.declared.State.{State}
-use Rattle.machine.specs.State.{withRegs, withIc, withSw, withMk, withPi, withFt}
+use Rattle.machine.specs.declared.Core.{Core}
+use Rattle.machine.specs.State.{withRegs, withCore, withIc, withSw, withMk, withPi, withFt}
 use Rattle.machine.specs.Machine.{Machine, machine, Became}
 use Rattle.machine.specs.Runs.{wholePages}
 use Rattle.image.specs.declared.Entry.{Entry}
@@ -131,12 +132,12 @@ answerOf b x = admission b (length (x .memory)) (length (x .pages)) (length (x .
 
 -- ---- the bodies
 
--- the words of kind 4, and the state with others
-unfoldable pub controlOf : State → List ℕ
-controlOf s = s .ic ∷ s .sw ∷ s .mk ∷ s .pi ∷ s .ft ∷ []
+-- the words of kind 4, and the core with others
+unfoldable pub controlOf : Core → List ℕ
+controlOf c = c .ic ∷ c .sw ∷ c .mk ∷ c .pi ∷ c .ft ∷ []
 
-unfoldable pub withControl : State → List ℕ → State
-withControl s ws = withFt (withPi (withMk (withSw (withIc s (getD ws 0 0)) (getD ws 1 0)) (getD ws 2 0)) (getD ws 3 0)) (getD ws 4 0)
+unfoldable pub withControl : Core → List ℕ → Core
+withControl c ws = withFt (withPi (withMk (withSw (withIc c (getD ws 0 0)) (getD ws 1 0)) (getD ws 2 0)) (getD ws 3 0)) (getD ws 4 0)
 
 -- the machine x after the words ws are written from word i of the target of a kind on
 unfoldable pub withWords : ℕ → ℕ → List ℕ → Machine → Machine
@@ -144,7 +145,7 @@ withWords kind i ws x =
     cond (eqb kind 1) (machine (x .state) (sets (x .memory) i ws) (x .pages) (x .ports))
     (cond (eqb kind 2) (machine (x .state) (x .memory) (sets (x .pages) i ws) (x .ports))
     (cond (eqb kind 3) (machine (withRegs (x .state) (sets (x .state .regs) i ws)) (x .memory) (x .pages) (x .ports))
-    (machine (withControl (x .state) (sets (controlOf (x .state)) i ws)) (x .memory) (x .pages) (x .ports))))
+    (machine (withCore (x .state) (withControl (x .state .core) (sets (controlOf (x .state .core)) i ws))) (x .memory) (x .pages) (x .ports))))
 
 module _ (b : List ℕ) where
   -- after the body of entry k is written

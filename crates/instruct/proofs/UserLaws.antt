@@ -25,7 +25,7 @@ use Rattle.machine.specs.declared.Instruction.{Instruction}
 use Rattle.machine.specs.declared.Prepared.{Prepared}
 use Rattle.machine.specs.declared.Prepared.the-variants.{Ready, Denied}
 use Rattle.machine.specs.declared.Class.the-variants.{User}
-use Rattle.machine.specs.State.{keyOf, groupOf, withPi, withSw, withIc, withRegs, advanced, joined}
+use Rattle.machine.specs.State.{keyOf, groupOf, Processor, joined, processor, withProcessor, withPi, withSw, withIc, advanced}
 use Rattle.machine.specs.Machine.{Became, Effect, spanFrom}
 use Rattle.machine.specs.Instructions.{affect, View, view, permitted, readyAt, redirected, derived, extended, granted, decoded, fetched, prepared, both}
 use Rattle.machine.specs.Step.{affected, stored, perform}
@@ -40,79 +40,37 @@ use Rattle.needs.proofs.NeedsLaws.{told, untold, reads-span, writes-span}
 use Rattle.rearrange.specs.Operation.{isBlock, Worked}
 use Rattle.machine.proofs.StepLaws.{keeps-key, keeps-group}
 use Rattle.gather.specs.Gathers.{FirstThree}
-use Rattle.clock.specs.Later.{later}
 use Rattle.moved.specs.declared.Moved.{Moved}
-use Rattle.moved.specs.Settled.{Lasting}
-use Rattle.moved.proofs.TimeLaws.{same-by}
+use Rattle.moved.specs.Settled.{movedTo, Lasting}
+use Rattle.moved.proofs.MovedLaws.{moved-lasting}
 
 -- ---- whether the choice of an interrupt stays
 
--- a user's effect leaves it, as long as PI is what it was, and leaves the time
-pub settled-by : (c d : Core) (r : Moved) (regs regs' : List ℕ) (e : Effect) → r .core ≡ d → r .lagging ≡ true → r .settled ≡ eqb (d .pi) (c .pi)
-    → joined d regs' ≡ affected (joined c regs) e → Lasting c r
-unfolding affected withPi withSw withIc withRegs
-settled-by c d r regs regs' e i l t h = record {
-  time-kept = λ k. rw i (same-by c d regs regs' (affected (joined c regs) e) h refl);
-  choice-kept = λ k. rw i (record {
-    pi-kept = eqb-true (d .pi) (c .pi) (sym t ∙ k);
-    mk-kept = ap (λ (s : State). s .mk) h;
-    enabled-kept = ap (λ (s : State). s .enabled) h;
-    hold-kept = ap (λ (s : State). s .hold) h;
-    key-kept = ap (λ (s : State). keyOf (s .sw)) h ∙ keeps-key (c .sw) (e .cs);
-    group-kept = ap (λ (s : State). groupOf (s .sw)) h ∙ keeps-group (c .sw) (e .cs);
-  });
-  lags = λ k. l;
-}
-
--- ---- an instruction up to its accesses does not see the time
-
-module _ (n : ℕ) (s : State) (v : View) where
-  redirected-later : (f w x : ℕ) (got : Got) → redirected (later n s) f w x got ≡ redirected s f w x got
-  unfolding redirected advanced
-  redirected-later f w x (Word a) = refl
-  redirected-later f w x (Missed b) = refl
-
-  derived-later : (f w x : ℕ) (b : Bool) → derived mil1750 (later n s) v f w x b ≡ derived mil1750 s v f w x b
-  unfolding derived mil1750
-  derived-later f w x false = refl
-  derived-later f w x true = redirected-later f w x (v .read (mil1750 .base (modeOf f) s w x))
-
-  extended-later : (f w : ℕ) (got : Got) → extended mil1750 (later n s) v f w got ≡ extended mil1750 s v f w got
-  unfolding extended advanced
-  extended-later f w (Word x) = derived-later f w x (eqb (modeOf f) 7)
-  extended-later f w (Missed b) = refl
-
-  granted-later : (f w : ℕ) (a b : Bool) → granted mil1750 (later n s) v f w a b ≡ granted mil1750 s v f w a b
-  unfolding granted advanced
-  granted-later f w false b = refl
-  granted-later f w true false = derived-later f w 0 (eqb (modeOf f) 7)
-  granted-later f w true true = extended-later f w (v .fetch (advanced s 1))
-
-  decoded-later : (f w : ℕ) (b : Bool) → decoded mil1750 (later n s) v f w b ≡ decoded mil1750 s v f w b
-  unfolding decoded advanced
-  decoded-later f w true = refl
-  decoded-later f w false = granted-later f w (permitted (mil1750 .class (operationOf f)) (keyOf (s .sw))) (eqb (lengthOf f) 2)
-
-  fetched-later : (got : Got) → fetched mil1750 (later n s) v got ≡ fetched mil1750 s v got
-  unfolding fetched advanced
-  fetched-later (Word w) = decoded-later (mil1750 .decode w) w (eqb (mil1750 .decode w) 0)
-  fetched-later (Missed b) = refl
-
-  pub prepared-later : prepared mil1750 (later n s) v ≡ prepared mil1750 s v
-  unfolding prepared
-  prepared-later = fetched-later (v .fetch (s .ic))
+-- a user's effect leaves it, as long as PI is what it was
+pub settled-by : (c d : Core) (v : Moved) (regs regs' : List ℕ) (e : Effect) → v ≡ movedTo (eqb (d .pi) (c .pi)) d
+    → joined d regs' ≡ affected (joined c regs) e → Lasting c v
+unfolding affected withPi withSw withIc
+settled-by c d v regs regs' e i h =
+    rw i (moved-lasting c d (eqb (d .pi) (c .pi)) (λ k. record {
+      pi-kept = eqb-true (d .pi) (c .pi) k;
+      mk-kept = ap (λ (p : Processor). p .core .mk) h;
+      enabled-kept = ap (λ (p : Processor). p .core .enabled) h;
+      hold-kept = ap (λ (p : Processor). p .core .hold) h;
+      key-kept = ap (λ (p : Processor). keyOf (p .core .sw)) h ∙ keeps-key (c .sw) (e .cs);
+      group-kept = ap (λ (p : Processor). groupOf (p .core .sw)) h ∙ keeps-group (c .sw) (e .cs);
+    }))
 
 -- ---- an instruction up to its accesses, from its first word on
 
-module _ (s : State) (m g : List ℕ) (key group : ℕ) (d : key ≡ keyOf (s .sw)) (e : group ≡ groupOf (s .sw)) (q : Place) (i : q ≡ lookup Fetch key group g (length m) (s .ic)) where
-  -- it was found at p
-  pub prepared-at : (p : ℕ) → q ≡ At p
-      → prepared mil1750 s (view s m g) ≡ decoded mil1750 s (view s m g) (decodeOf (getD m p 0)) (getD m p 0) (eqb (decodeOf (getD m p 0)) 0)
+module _ (p : Processor) (m g : List ℕ) (key group : ℕ) (d : key ≡ keyOf (p .core .sw)) (e : group ≡ groupOf (p .core .sw)) (q : Place) (i : q ≡ lookup Fetch key group g (length m) (p .core .ic)) where
+  -- it was found at a
+  pub prepared-at : (a : ℕ) → q ≡ At a
+      → prepared mil1750 p (view (p .core) m g) ≡ decoded mil1750 p (view (p .core) m g) (decodeOf (getD m a 0)) (getD m a 0) (eqb (decodeOf (getD m a 0)) 0)
   unfolding prepared fetched gotAt mil1750
-  prepared-at p h = rw (← d, ← e, ← i, h) refl
+  prepared-at a h = rw (← d, ← e, ← i, h) refl
 
   -- it was refused
-  pub prepared-refused : (b : ℕ) → q ≡ Refused b → prepared mil1750 s (view s m g) ≡ Denied b (wrapped (s .ic + 1))
+  pub prepared-refused : (b : ℕ) → q ≡ Refused b → prepared mil1750 p (view (p .core) m g) ≡ Denied b (wrapped (p .core .ic + 1))
   unfolding prepared fetched gotAt mil1750 advanced
   prepared-refused b h = rw (← d, ← e, ← i, h) refl
 
@@ -122,34 +80,34 @@ formed f (Ready n) = n .form
 formed f (Denied b a) = f
 
 -- one that is ready has the form that it was prepared by
-module _ (s : State) (v : View) where
-  redirected-formed : (f w x : ℕ) (got : Got) → formed f (redirected s f w x got) ≡ f
+module _ (p : Processor) (v : View) where
+  redirected-formed : (f w x : ℕ) (got : Got) → formed f (redirected (p .core) f w x got) ≡ f
   unfolding redirected readyAt
   redirected-formed f w x (Word a) = refl
   redirected-formed f w x (Missed b) = refl
 
-  derived-formed : (f w x : ℕ) (b : Bool) → formed f (derived mil1750 s v f w x b) ≡ f
+  derived-formed : (f w x : ℕ) (b : Bool) → formed f (derived mil1750 p v f w x b) ≡ f
   unfolding derived readyAt
   derived-formed f w x false = refl
-  derived-formed f w x true = redirected-formed f w x (v .read (mil1750 .base (modeOf f) s w x))
+  derived-formed f w x true = redirected-formed f w x (v .read (mil1750 .base (modeOf f) p w x))
 
-  extended-formed : (f w : ℕ) (got : Got) → formed f (extended mil1750 s v f w got) ≡ f
+  extended-formed : (f w : ℕ) (got : Got) → formed f (extended mil1750 p v f w got) ≡ f
   unfolding extended
   extended-formed f w (Word x) = derived-formed f w x (eqb (modeOf f) 7)
   extended-formed f w (Missed b) = refl
 
-  granted-formed : (f w : ℕ) (a b : Bool) → formed f (granted mil1750 s v f w a b) ≡ f
+  granted-formed : (f w : ℕ) (a b : Bool) → formed f (granted mil1750 p v f w a b) ≡ f
   unfolding granted
   granted-formed f w false b = refl
   granted-formed f w true false = derived-formed f w 0 (eqb (modeOf f) 7)
-  granted-formed f w true true = extended-formed f w (v .fetch (advanced s 1))
+  granted-formed f w true true = extended-formed f w (v .fetch (advanced (p .core) 1))
 
-  decoded-formed : (f w : ℕ) (b : Bool) → formed f (decoded mil1750 s v f w b) ≡ f
+  decoded-formed : (f w : ℕ) (b : Bool) → formed f (decoded mil1750 p v f w b) ≡ f
   unfolding decoded
   decoded-formed f w true = refl
-  decoded-formed f w false = granted-formed f w (permitted (mil1750 .class (operationOf f)) (keyOf (s .sw))) (eqb (lengthOf f) 2)
+  decoded-formed f w false = granted-formed f w (permitted (mil1750 .class (operationOf f)) (keyOf (p .core .sw))) (eqb (lengthOf f) 2)
 
-  pub ready-form : (f w : ℕ) (b : Bool) (n : Instruction) → decoded mil1750 s v f w b ≡ Ready n → n .form ≡ f
+  pub ready-form : (f w : ℕ) (b : Bool) (n : Instruction) → decoded mil1750 p v f w b ≡ Ready n → n .form ≡ f
   ready-form f w b n h = sym (ap (formed f) h) ∙ decoded-formed f w b
 
 -- ---- a user's operation
@@ -247,18 +205,18 @@ few-written regs n h =
     by false true a = written-few (operationOf (n .form))
     by false false a = omega arith
 
-pub worked-ordinary : (s : State) (m g : List ℕ) (n : Instruction) (ws : List ℕ) (x y z : ℕ) (to : Span) (t : State) (w : List ℕ)
-    → isBlock (operationOf (n .form)) ≡ false → FirstThree ws x y z → to ≡ writesOf (s .regs) n
-    → t ≡ affected s (ordinary (contextOf s) n x y z (operationOf (n .form)))
-    → w ≡ stored s m g (ordinary (contextOf s) n x y z (operationOf (n .form))) to
-    → Worked s m g n (executed (contextOf s) n ws) t w
-worked-ordinary s m g n ws x y z to t w h e j p q =
-    let d : ordinary (contextOf s) n x y z (operationOf (n .form)) ≡ executed (contextOf s) n ws =
-    rw (e .first-is, e .second-is, e .third-is) (ordinary-executed (contextOf s) n h ws) in
-    record { state-is = p ∙ ap (affected s) d; memory-is = q ∙ ap (λ k. stored s m g k to) d ∙ ap (stored s m g (executed (contextOf s) n ws)) j }
+pub worked-ordinary : (p : Processor) (m g : List ℕ) (n : Instruction) (ws : List ℕ) (x y z : ℕ) (to : Span) (t : Processor) (w : List ℕ)
+    → isBlock (operationOf (n .form)) ≡ false → FirstThree ws x y z → to ≡ writesOf (p .regs) n
+    → t ≡ affected p (ordinary (contextOf p) n x y z (operationOf (n .form)))
+    → w ≡ stored (p .core) m g (ordinary (contextOf p) n x y z (operationOf (n .form))) to
+    → Worked p m g n (executed (contextOf p) n ws) t w
+worked-ordinary p m g n ws x y z to t w h e j q r =
+    let d : ordinary (contextOf p) n x y z (operationOf (n .form)) ≡ executed (contextOf p) n ws =
+    rw (e .first-is, e .second-is, e .third-is) (ordinary-executed (contextOf p) n h ws) in
+    record { processor-is = q ∙ ap (affected p) d; memory-is = r ∙ ap (λ k. stored (p .core) m g k to) d ∙ ap (stored (p .core) m g (executed (contextOf p) n ws)) j }
 
--- the same n ticks later, after which the state is u
-pub became-worked : (n : ℕ) (s : State) (m g o : List ℕ) (i : Instruction) (e : Effect) (t u : State) (w : List ℕ)
-    → Worked s m g i e t w → u ≡ later n t → Became (perform (later n s) m g o (affect e (writesOf (s .regs) i))) u w g o
-unfolding perform affected stored withPi withSw withIc withRegs
-became-worked n s m g o i e t u w b h = record { state-is = h ∙ ap (later n) (b .state-is); memory-is = b .memory-is; pages-is = refl; ports-is = refl }
+-- in the state s
+pub became-worked : (s : State) (m g o : List ℕ) (i : Instruction) (e : Effect) (t : Processor) (w : List ℕ)
+    → Worked (processor s) m g i e t w → Became (perform s m g o (affect e (writesOf (s .regs) i))) (withProcessor s t) w g o
+unfolding perform
+became-worked s m g o i e t w b = record { state-is = ap (withProcessor s) (b .processor-is); memory-is = b .memory-is; pages-is = refl; ports-is = refl }

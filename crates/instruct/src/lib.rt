@@ -1,6 +1,5 @@
 // One instruction (Scope, "One step", 2 and 3), on a core and the registers lent beside it; key and group are those of its SW. Callers have
-// 512 page registers and 1,024 ports: a run asks for them. The core may lag some calm ticks behind the state: only the commands of timers see
-// the time.
+// 512 page registers and 1,024 ports: a run asks for them. What is said here holds whatever the rest of the state is; a timer command is handed back undone.
 ghost use mathlib.Core.Path.{_≡_};
 ghost use mathlib.Core.Bool.{true, false};
 ghost use mathlib.Core.List.{List};
@@ -11,19 +10,15 @@ ghost use Rattle.page.specs.Pages.{lookup};
 ghost use Rattle.page.specs.Spans.{checked, wordsOf};
 ghost use Rattle.decode.specs.Forms.{operationOf};
 ghost use Rattle.decode.specs.Decode.{decodeOf};
-ghost use Rattle.machine.specs.State.{keyOf, groupOf, joined};
-ghost use Rattle.machine.specs.Machine.{Became};
+ghost use Rattle.machine.specs.State.{keyOf, groupOf, processor};
 ghost use Rattle.machine.specs.Instructions as spec;
-ghost use Rattle.machine.specs.Step.{perform};
 ghost use Rattle.isa.specs.Accesses.{readsOf, writesOf};
 ghost use Rattle.isa.specs.Mil1750.{mil1750};
 ghost use Rattle.needs.specs.Needs.{wayOf, numberOf, numbers};
 ghost use Rattle.rearrange.specs.Operation.{isBlock};
 ghost use Rattle.gather.specs.Gathers.{FirstThree};
-ghost use Rattle.clock.specs.Later.{Calm, later};
-ghost use Rattle.moved.specs.Settled.{Lasting, after};
+ghost use Rattle.moved.specs.Settled.{carrying, obeying, Performed};
 use block::block;
-use clock::time::fault;
 use direct::direct;
 use gather::Gathered;
 use gather::gather;
@@ -81,11 +76,8 @@ fn carry_words(
     n: Instruction,
 ) -> Moved
     requires { ⌜ (length (now pages) ≡ 512) × (isBlock (operationOf (n .form)) ≡ true) ⌝ }
-    ensures { λ r. ⌜ ((lag : ℕ) (ports : List ℕ) → Became (perform (later lag (joined core (now (regs .entry)))) (now (memory .entry)) (now (pages .entry)) ports
-        (spec.carried mil1750 (later lag (joined core (now (regs .entry)))) (now (pages .entry)) ports
-        (spec.view (later lag (joined core (now (regs .entry)))) (now (memory .entry)) (now (pages .entry))) (Prepared.Ready n)))
-        (after (r .lagging) lag (joined (r .core) (now (regs .exit)))) (now (memory .exit)) (now (pages .entry)) ports)
-        × Lasting core r ⌝ }
+    ensures { λ r. ⌜ ((ports : List ℕ) → Performed (carrying n) core (now (regs .entry)) (now (memory .entry)) (now (pages .entry)) ports
+        r (now (regs .exit)) (now (memory .exit)) (now (pages .entry)) ports) ⌝ }
 {
     let from = reads(regs, n);
     let to = writes(regs, n);
@@ -107,11 +99,8 @@ fn carry_block(
     n: Instruction,
 ) -> Moved
     requires { ⌜ (length (now pages) ≡ 512) × (isBlock (operationOf (n .form)) ≡ true) × (key ≡ keyOf (core .sw)) × (group ≡ groupOf (core .sw)) × (group < 16) ⌝ }
-    ensures { λ r. ⌜ ((lag : ℕ) (ports : List ℕ) → Became (perform (later lag (joined core (now (regs .entry)))) (now (memory .entry)) (now (pages .entry)) ports
-        (spec.carried mil1750 (later lag (joined core (now (regs .entry)))) (now (pages .entry)) ports
-        (spec.view (later lag (joined core (now (regs .entry)))) (now (memory .entry)) (now (pages .entry))) (Prepared.Ready n)))
-        (after (r .lagging) lag (joined (r .core) (now (regs .exit)))) (now (memory .exit)) (now (pages .entry)) ports)
-        × Lasting core r ⌝ }
+    ensures { λ r. ⌜ ((ports : List ℕ) → Performed (carrying n) core (now (regs .entry)) (now (memory .entry)) (now (pages .entry)) ports
+        r (now (regs .exit)) (now (memory .exit)) (now (pages .entry)) ports) ⌝ }
 {
     let tried = try_block(core, key, group, regs, memory, pages, n);
     if tried.done {
@@ -135,12 +124,9 @@ fn proceed(
     requires { ⌜ (length (now pages) ≡ 512) × (isBlock (operationOf (n .form)) ≡ false)
         × FirstThree (wordsOf (keyOf (core .sw)) (groupOf (core .sw)) (now pages) (length (now memory)) (readsOf (now regs) n) (now memory)) (g .x) (g .y) (g .z) × (key ≡ keyOf (core .sw)) × (group ≡ groupOf (core .sw)) × (group < 16)
         × (number ≡ numberOf (n .form)) × (wayOf (operationOf (n .form)) ≡ 0) ⌝ }
-    ensures { λ r. ⌜ ((lag : ℕ) (ports : List ℕ) → Became (perform (later lag (joined core (now (regs .entry)))) (now (memory .entry)) (now (pages .entry)) ports
-        (spec.accessed mil1750 (later lag (joined core (now (regs .entry)))) (now (pages .entry)) ports
-        (spec.view (later lag (joined core (now (regs .entry)))) (now (memory .entry)) (now (pages .entry))) n
-        (checked (keyOf (core .sw)) (groupOf (core .sw)) (now (pages .entry)) (length (now (memory .entry))) (writesOf (now (regs .entry)) n) Access.Write)))
-        (after (r .lagging) lag (joined (r .core) (now (regs .exit)))) (now (memory .exit)) (now (pages .entry)) ports)
-        × Lasting core r ⌝ }
+    ensures { λ r. ⌜ ((ports : List ℕ) → Performed (λ m g o s. spec.accessed mil1750 s g o (spec.view (s .core) m g) n
+        (checked (keyOf (s .core .sw)) (groupOf (s .core .sw)) g (length m) (writesOf (s .regs) n) Access.Write))
+        core (now (regs .entry)) (now (memory .entry)) (now (pages .entry)) ports r (now (regs .exit)) (now (memory .exit)) (now (pages .entry)) ports) ⌝ }
 {
     let to = span_from(write_start(regs, n, number), write_count(n, number));
     let verdict = check_span(Access::Write, key, group, pages, memory.len(), to);
@@ -166,11 +152,8 @@ fn carry_direct(
 ) -> Moved
     requires { ⌜ (length (now pages) ≡ 512) × (key ≡ keyOf (core .sw)) × (group ≡ groupOf (core .sw)) × (group < 16)
         × (number ≡ numberOf (n .form)) × (0x0080_0000 ≤ number) × (number < 0x0300_0000) ⌝ }
-    ensures { λ r. ⌜ ((lag : ℕ) (ports : List ℕ) → Became (perform (later lag (joined core (now (regs .entry)))) (now (memory .entry)) (now (pages .entry)) ports
-        (spec.carried mil1750 (later lag (joined core (now (regs .entry)))) (now (pages .entry)) ports
-        (spec.view (later lag (joined core (now (regs .entry)))) (now (memory .entry)) (now (pages .entry))) (Prepared.Ready n)))
-        (after (r .lagging) lag (joined (r .core) (now (regs .exit)))) (now (memory .exit)) (now (pages .entry)) ports)
-        × Lasting core r ⌝ }
+    ensures { λ r. ⌜ ((ports : List ℕ) → Performed (carrying n) core (now (regs .entry)) (now (memory .entry)) (now (pages .entry)) ports
+        r (now (regs .exit)) (now (memory .exit)) (now (pages .entry)) ports) ⌝ }
 {
     let end = direct(core, key, group, regs, memory, pages, n, number);
     if end.clear {
@@ -192,11 +175,8 @@ fn carry_ordinary(
 ) -> Moved
     requires { ⌜ (length (now pages) ≡ 512) × (key ≡ keyOf (core .sw)) × (group ≡ groupOf (core .sw)) × (group < 16) × (number ≡ numberOf (n .form))
         × (isBlock (operationOf (n .form)) ≡ false) × (wayOf (operationOf (n .form)) ≡ 0) ⌝ }
-    ensures { λ r. ⌜ ((lag : ℕ) (ports : List ℕ) → Became (perform (later lag (joined core (now (regs .entry)))) (now (memory .entry)) (now (pages .entry)) ports
-        (spec.carried mil1750 (later lag (joined core (now (regs .entry)))) (now (pages .entry)) ports
-        (spec.view (later lag (joined core (now (regs .entry)))) (now (memory .entry)) (now (pages .entry))) (Prepared.Ready n)))
-        (after (r .lagging) lag (joined (r .core) (now (regs .exit)))) (now (memory .exit)) (now (pages .entry)) ports)
-        × Lasting core r ⌝ }
+    ensures { λ r. ⌜ ((ports : List ℕ) → Performed (carrying n) core (now (regs .entry)) (now (memory .entry)) (now (pages .entry)) ports
+        r (now (regs .exit)) (now (memory .exit)) (now (pages .entry)) ports) ⌝ }
 {
     let from = read_start(regs, n, number);
     let g = gather(key, group, memory, pages, from, read_count(n, number));
@@ -209,7 +189,6 @@ fn carry_ordinary(
 // An instruction that is ready, by its form number, whose ranges are the rules: its accesses are checked before it changes anything.
 fn carry(
     core: Core,
-    lag: u32,
     key: u16,
     group: u16,
     regs: &mut [u16; 16],
@@ -219,16 +198,15 @@ fn carry(
     n: Instruction,
     number: u32,
 ) -> Moved
-    requires { ⌜ (length (now pages) ≡ 512) × (length (now ports) ≡ 1024) × (key ≡ keyOf (core .sw)) × (group ≡ groupOf (core .sw)) × (group < 16) × Calm lag core × (number ≡ numberOf (n .form)) ⌝ }
-    ensures { λ r. ⌜ (Became (perform (later lag (joined core (now (regs .entry)))) (now (memory .entry)) (now (pages .entry)) (now (ports .entry))
-        (spec.carried mil1750 (later lag (joined core (now (regs .entry)))) (now (pages .entry)) (now (ports .entry)) (spec.view (later lag (joined core (now (regs .entry)))) (now (memory .entry)) (now (pages .entry))) (Prepared.Ready n)))
-        (after (r .lagging) lag (joined (r .core) (now (regs .exit)))) (now (memory .exit)) (now (pages .exit)) (now (ports .exit))) × Lasting core r ⌝ }
+    requires { ⌜ (length (now pages) ≡ 512) × (length (now ports) ≡ 1024) × (key ≡ keyOf (core .sw)) × (group ≡ groupOf (core .sw)) × (group < 16) × (number ≡ numberOf (n .form)) ⌝ }
+    ensures { λ r. ⌜ Performed (carrying n) core (now (regs .entry)) (now (memory .entry)) (now (pages .entry)) (now (ports .entry))
+        r (now (regs .exit)) (now (memory .exit)) (now (pages .exit)) (now (ports .exit)) ⌝ }
 {
     match number {
         // the most frequent operations, from 0x0080_0000 on
         0..=0x02FF_FFFF => carry_direct(core, key, group, regs, memory, pages, n, number),
         // XIO
-        0x0300_0000..=0x037F_FFFF => command(core, lag, regs, pages, ports, n),
+        0x0300_0000..=0x037F_FFFF => command(core, regs, pages, ports, n),
         // BEX
         0x0380_0000..=0x03FF_FFFF => executive(core, memory, pages, n),
         // LST
@@ -243,7 +221,6 @@ fn carry(
 // The instruction whose first word w was found at IC, at the physical address at.
 fn begin(
     core: Core,
-    lag: u32,
     key: u16,
     group: u16,
     regs: &mut [u16; 16],
@@ -254,16 +231,15 @@ fn begin(
     w: u16,
     at: usize,
 ) -> Moved
-    requires { ⌜ (length (now pages) ≡ 512) × (length (now ports) ≡ 1024) × (key ≡ keyOf (core .sw)) × (group ≡ groupOf (core .sw)) × (group < 16) × Calm lag core × (number ≡ numberOf (decodeOf w))
+    requires { ⌜ (length (now pages) ≡ 512) × (length (now ports) ≡ 1024) × (key ≡ keyOf (core .sw)) × (group ≡ groupOf (core .sw)) × (group < 16) × (number ≡ numberOf (decodeOf w))
         × (lookup Access.Fetch key group (now pages) (length (now memory)) (core .ic) ≡ Place.At at) ⌝ }
-    ensures { λ r. ⌜ (Became (perform (later lag (joined core (now (regs .entry)))) (now (memory .entry)) (now (pages .entry)) (now (ports .entry))
-        (spec.carried mil1750 (later lag (joined core (now (regs .entry)))) (now (pages .entry)) (now (ports .entry)) (spec.view (later lag (joined core (now (regs .entry)))) (now (memory .entry)) (now (pages .entry)))
-        (spec.decoded mil1750 (joined core (now (regs .entry))) (spec.view (joined core (now (regs .entry))) (now (memory .entry)) (now (pages .entry))) (decodeOf w) w (eqb (decodeOf w) 0))))
-        (after (r .lagging) lag (joined (r .core) (now (regs .exit)))) (now (memory .exit)) (now (pages .exit)) (now (ports .exit))) × Lasting core r ⌝ }
+    ensures { λ r. ⌜ Performed (λ m g o s. spec.carried mil1750 s g o (spec.view (s .core) m g)
+        (spec.decoded mil1750 (processor s) (spec.view (s .core) m g) (decodeOf w) w (eqb (decodeOf w) 0)))
+        core (now (regs .entry)) (now (memory .entry)) (now (pages .entry)) (now (ports .entry)) r (now (regs .exit)) (now (memory .exit)) (now (pages .exit)) (now (ports .exit)) ⌝ }
 {
     let prepared = prepare(core, key, group, regs, memory, pages, number, w, at);
     match prepared {
-        Prepared::Ready(n) => carry(core, lag, key, group, regs, memory, pages, ports, n, number),
+        Prepared::Ready(n) => carry(core, key, group, regs, memory, pages, ports, n, number),
         Prepared::Denied(b, a) => deny(core, b, a),
     }
 }
@@ -271,7 +247,6 @@ fn begin(
 // The instruction at IC, from a core whose hold mark is clear. The table is that of form numbers, made once a run.
 pub fn instruct(
     core: Core,
-    lag: u32,
     key: u16,
     group: u16,
     regs: &mut [u16; 16],
@@ -280,31 +255,16 @@ pub fn instruct(
     ports: &mut [u16],
     table: &[u32; 256],
 ) -> Moved
-    requires { ⌜ (length (now pages) ≡ 512) × (length (now ports) ≡ 1024) × (now table ≡ numbers) × (key ≡ keyOf (core .sw)) × (group ≡ groupOf (core .sw)) × (group < 16) × Calm lag core ⌝ }
-    ensures { λ r. ⌜ (Became (perform (later lag (joined core (now (regs .entry)))) (now (memory .entry)) (now (pages .entry)) (now (ports .entry))
-        (spec.instructed mil1750 (later lag (joined core (now (regs .entry)))) (now (pages .entry)) (now (ports .entry))
-        (spec.view (later lag (joined core (now (regs .entry)))) (now (memory .entry)) (now (pages .entry)))))
-        (after (r .lagging) lag (joined (r .core) (now (regs .exit)))) (now (memory .exit)) (now (pages .exit)) (now (ports .exit)))
-        × Lasting core r ⌝ }
+    requires { ⌜ (length (now pages) ≡ 512) × (length (now ports) ≡ 1024) × (now table ≡ numbers) × (key ≡ keyOf (core .sw)) × (group ≡ groupOf (core .sw)) × (group < 16) ⌝ }
+    ensures { λ r. ⌜ Performed obeying core (now (regs .entry)) (now (memory .entry)) (now (pages .entry)) (now (ports .entry))
+        r (now (regs .exit)) (now (memory .exit)) (now (pages .exit)) (now (ports .exit)) ⌝ }
 {
     let first = look_up(Access::Fetch, key, group, pages, memory.len(), core.ic);
     match first {
         Place::At(at) => {
             let w = memory[at];
             let number = decode_with(table, w);
-            begin(
-                core,
-                lag,
-                key,
-                group,
-                regs,
-                memory,
-                pages,
-                ports,
-                number,
-                w,
-                at,
-            )
+            begin(core, key, group, regs, memory, pages, ports, number, w, at)
         }
         Place::Refused(b) => deny(core, b, advance(core.ic, 1)),
     }

@@ -5,16 +5,16 @@ use lib.Dec.{T}
 use lib.ListN.{replicate}
 use Rattle.choice.specs.Table.{tableOf}
 use Rattle.choice.proofs.Rows.{Row, one, some, hold}
-use Rattle.machine.specs.declared.State.{State}
+use Rattle.machine.specs.declared.Core.{Core}
 use Rattle.machine.specs.declared.Vector.{Vector}
 use Rattle.machine.specs.Entries.{chosen, vectorOf, callOf}
 use Rattle.machine.proofs.Opened.{machinery}
-use Rattle.machine.proofs.Samples.{stateAt}
-use Rattle.machine.specs.State.{withMk, withPi}
+use Rattle.machine.specs.State.{resetState, withMk, withPi}
 
 -- interrupts 2 and 5 are pending, 2 is unmasked, and interrupts are disabled
-abbrev s : State
-s = withPi (withMk (stateAt (replicate 16 0) 0 0) 0x2000) 0x2400
+abbrev c : Core
+unfolding resetState
+c = withPi (withMk (resetState .core) 0x2000) 0x2400
 
 -- every word is its address, and every page register is 0
 abbrev memory : List ℕ
@@ -30,7 +30,7 @@ pub rows : List Row
 unfolding machinery
 rows =
     -- pending::choose: interrupt 2 while interrupts are disabled; none while interrupts are disabled
-    one (chosen s) 5 2 16
+    one (chosen c) 5 2 16
     -- pointers::vector: the linkage and the service pointer exchanged; the pointers of the next interrupt
     ∷ some (parts (vectorOf memory g 1)) (34 ∷ 35 ∷ 36 ∷ 37 ∷ 0 ∷ []) (35 ∷ 34 ∷ 35 ∷ 36 ∷ 0 ∷ []) (36 ∷ 37 ∷ 38 ∷ 39 ∷ 0 ∷ [])
     -- pointers::call_vector: the IC of call 0; the IC of the call before

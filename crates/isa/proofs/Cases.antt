@@ -8,10 +8,10 @@ use lib.ListN.{replicate, set}
 use Rattle.choice.proofs.Rows.{allOf}
 use Rattle.machine.specs.declared.State.{State}
 use Rattle.machine.specs.Machine.{Machine, machine}
-use Rattle.machine.specs.State.{withMk, withPi, withFt, withHold}
+use Rattle.machine.specs.State.{withCore, withMk, withPi, withFt, withHold}
 use Rattle.machine.specs.Step.{step}
 use Rattle.machine.proofs.Opened.{machinery}
-use Rattle.machine.proofs.Samples.{resetPages, stateAt, elapsed, sameMachine}
+use Rattle.machine.proofs.Samples.{resetPages, stateAt, stepsOn, sameMachine}
 use Rattle.isa.specs.Mil1750.{mil1750}
 use Rattle.isa.proofs.OpenWords.{words}
 use Rattle.isa.proofs.OpenFloats.{floats}
@@ -139,7 +139,11 @@ cases =
 
 -- R0 to R15, IC, SW, PI and FT
 abbrev pub stateOf : Words → ℕ → ℕ → ℕ → ℕ → State
-stateOf regs ic sw pi ft = withFt (withPi (stateAt (with regs (replicate 16 0)) ic sw) pi) ft
+stateOf regs ic sw pi ft = let s = stateAt (with regs (replicate 16 0)) ic sw in withCore s (withFt (withPi (s .core) pi) ft)
+
+-- with MK and the hold mark
+abbrev pub masked : State → ℕ → Bool → State
+masked s mk hold = withCore s (withHold (withMk (s .core) mk) hold)
 
 -- a state, and what was stored since the step began
 abbrev pub holding : Case → State → Words → Machine
@@ -149,7 +153,7 @@ holding c s stored = machine s (with stored (with (c .memory) (replicate 8192 0)
 unfoldable pub right : Case → Bool
 right c =
     let x = step mil1750 (holding c (stateOf (c .regs) 0 (c .sw) (c .pi) (c .ft)) []) in
-    sameMachine x (holding c (elapsed 1 (withHold (withMk (stateOf (c .regs') (c .ic') (c .sw') (c .pi') (c .ft')) (c .mk')) (c .hold'))) (c .memory'))
+    sameMachine x (holding c (stepsOn 1 (masked (stateOf (c .regs') (c .ic') (c .sw') (c .pi') (c .ft')) (c .mk') (c .hold'))) (c .memory'))
 
 pub cases-hold : T (allOf right cases)
 unfolding words floats decoder machinery instructions with cases right

@@ -9,11 +9,11 @@ use Rattle.choice.specs.Table.{tableOf}
 use Rattle.choice.proofs.Rows.{allOf}
 use Rattle.machine.specs.declared.State.{State}
 use Rattle.machine.specs.Machine.{Machine, machine}
-use Rattle.machine.specs.State.{withPi}
+use Rattle.machine.specs.State.{withCore, withPi}
 use Rattle.machine.specs.Step.{step}
 use Rattle.machine.specs.Runs.{steps}
 use Rattle.machine.proofs.Opened.{machinery}
-use Rattle.machine.proofs.Samples.{resetPages, stateAt, elapsed, sameMachine}
+use Rattle.machine.proofs.Samples.{resetPages, stateAt, stepsOn, sameMachine}
 use Rattle.isa.specs.Mil1750.{mil1750}
 use Rattle.isa.proofs.OpenWords.{words}
 use Rattle.isa.proofs.OpenFloats.{floats}
@@ -58,6 +58,9 @@ numbers k n = tableOf (λ i. i) k n
 abbrev pub stateOf : List ℕ → ℕ → ℕ → State
 stateOf few ic sw = stateAt (few ++ numbers 4 12) ic sw
 
+abbrev pub pending : State → ℕ → State
+pending s pi = withCore s (withPi (s .core) pi)
+
 abbrev pub holding : Row → State → Machine
 holding r s = machine s (r .instruction ∷ numbers 1 4095) resetPages (numbers 0 1024)
 
@@ -65,7 +68,7 @@ holding r s = machine s (r .instruction ∷ numbers 1 4095) resetPages (numbers 
 unfoldable pub right : Row → Bool
 right r =
     let x = step mil1750 (holding r (stateOf (r .before) 0 0)) in
-    sameMachine x (holding r (elapsed 1 (withPi (stateOf (r .after) 1 (4096 * r .cs)) (r .pi))))
+    sameMachine x (holding r (stepsOn 1 (pending (stateOf (r .after) 1 (4096 * r .cs)) (r .pi))))
 
 pub rows-hold : T (allOf right rows)
 unfolding words floats decoder machinery instructions right rows
@@ -78,6 +81,6 @@ exampleAt s = machine s (0x823F ∷ 0x7900 ∷ replicate 16382 0) resetPages (re
 unfoldable pub example : Machine
 example = steps mil1750 1000 (exampleAt (stateAt (replicate 16 0) 0 0))
 
-pub example-holds : T (sameMachine example (exampleAt (elapsed 1000 (stateAt (set (replicate 16 0) 3 16) 1 0x4000))))
+pub example-holds : T (sameMachine example (exampleAt (stepsOn 1000 (stateAt (set (replicate 16 0) 3 16) 1 0x4000))))
 unfolding words floats decoder machinery instructions example
 example-holds = tt

@@ -5,9 +5,9 @@ use lib.Dec.{eqb}
 use Rattle.choice.specs.Select.{select}
 use Rattle.decode.specs.Forms.{privilegedOperations}
 use Rattle.decode.specs.Decode.{decodeOf}
-use Rattle.machine.specs.declared.State.{State}
 use Rattle.machine.specs.declared.Class.{Class}
 use Rattle.machine.specs.declared.Class.the-variants.{User, Supervisor, Executive}
+use Rattle.machine.specs.State.{Processor}
 use Rattle.machine.specs.Machine.{Isa}
 use Rattle.isa.specs.Addressing.{derivedFrom}
 use Rattle.isa.specs.Accesses.{readsOf, writesOf}
@@ -19,18 +19,18 @@ use Rattle.isa.specs.Commands.{supervisedBy}
 unfoldable pub classOf : ℕ → Class
 classOf operation = cond (eqb operation 30) Executive (cond (select operation privilegedOperations false) Supervisor User)
 
--- what a user's operation sees of the state
-unfoldable pub contextOf : State → Context
-contextOf s = record { regs = s .regs; ic = s .ic; sw = s .sw; pi = s .pi }
+-- what a user's operation sees of the processor
+unfoldable pub contextOf : Processor → Context
+contextOf p = record { regs = p .regs; ic = p .core .ic; sw = p .core .sw; pi = p .core .pi }
 
 unfoldable pub mil1750 : Isa
 mil1750 =
     record {
       decode = decodeOf;
       class = classOf;
-      base = λ mode s first second. derivedFrom mode (s .regs) (s .ic) first second;
-      reads = λ s n. readsOf (s .regs) n;
-      writes = λ s n. writesOf (s .regs) n;
-      execute = λ s n ws. executed (contextOf s) n ws;
+      base = λ mode p first second. derivedFrom mode (p .regs) (p .core .ic) first second;
+      reads = readsOf;
+      writes = writesOf;
+      execute = λ p n ws. executed (contextOf p) n ws;
       supervise = supervisedBy;
     }

@@ -1,6 +1,6 @@
 -- The bodies of an image: turns of the loops that write them, where they lie, and their targets. Assumes nothing.
 use Prim.Native.Nat.{ℕ, zero, suc, _+_, _-_, _*_, _≤_, _<_}
-use mathlib.Core.Path.{_≡_, refl}
+use mathlib.Core.Path.{_≡_, refl, ap}
 use mathlib.Core.List.{List}
 use native.Mathlib.Omega.{arith}
 use native.Mathlib.Nat.{add-zero, add-suc}
@@ -9,7 +9,8 @@ use lib.ListN.{length, set}
 use lib.Seq.{sets}
 use borrow.Author.Tests.{eq-eqb, ne-eqb}
 use Rattle.machine.specs.declared.State.{State}
-use Rattle.machine.specs.State.{withRegs}
+use Rattle.machine.specs.declared.Core.{Core}
+use Rattle.machine.specs.State.{withRegs, withCore}
 use Rattle.machine.specs.Machine.{Machine, machine, Became}
 use Rattle.image.specs.declared.Entry.{Entry}
 use Rattle.image.specs.Image.{wordAt, countOf, entryAt, wordsBefore, tableEnd, bodyAt, wordsFrom, targetSize, endOf, controlOf, withControl, withWords, withBody, withBodies}
@@ -105,6 +106,8 @@ module _ (kind i : ℕ) (ws : List ℕ) (s : State) (m g o : List ℕ) where
       unfolding withWords
       to-registers k e = rw (ne-eqb _ _ n, ne-eqb _ _ l, eq-eqb _ _ k) (record { state-is = e; memory-is = refl; pages-is = refl; ports-is = refl })
 
-      pub to-control : (kind ≡ 3 → ⊥) → v ≡ withControl s (sets (controlOf s) i ws) → Became (withWords kind i ws (machine s m g o)) v m g o
-      unfolding withWords
-      to-control p e = rw (ne-eqb _ _ n, ne-eqb _ _ l, ne-eqb _ _ p) (record { state-is = e; memory-is = refl; pages-is = refl; ports-is = refl })
+    pub to-control : (kind ≡ 2 → ⊥) → (kind ≡ 3 → ⊥) → (c : Core) → c ≡ withControl (s .core) (sets (controlOf (s .core)) i ws)
+        → Became (withWords kind i ws (machine s m g o)) (withCore s c) m g o
+    unfolding withWords
+    to-control l p c e =
+        rw (ne-eqb _ _ n, ne-eqb _ _ l, ne-eqb _ _ p) (record { state-is = ap (withCore s) e; memory-is = refl; pages-is = refl; ports-is = refl })

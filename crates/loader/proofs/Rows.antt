@@ -9,14 +9,19 @@ use Rattle.machine.specs.declared.State.{State}
 use Rattle.machine.specs.Machine.{Machine, machine}
 use Rattle.machine.proofs.Opened.{machinery}
 use Rattle.machine.proofs.Samples.{groups, parts, sameMachine}
-use Rattle.reset.specs.Reset.{resetState, cycle, resetPages, resetMachine}
+use Rattle.reset.specs.Reset.{cycle, resetPages, resetMachine}
 use Rattle.image.specs.Image.{wordAt, longAt, countOf, entryAt, wordsBefore, tableEnd, bodyAt, wordsFrom, numberOf, asked, unlessRefused, targetSize, endOf, share, sharesEarlier, entryAnswer, entriesAnswer, imageAnswer, admission, answerOf, controlOf, withControl, withWords, withBody, withBodies, loaded, afterLoading}
 
 -- ---- machines
 
 -- a state and a machine in which nothing is as reset leaves it
 abbrev used : State
-used = record { regs = replicate 16 1; ic = 2; sw = 3; mk = 4; pi = 5; ft = 6; enabled = true; hold = true; ta = 7; tb = 8; taon = false; tbon = false; count = 9 }
+used =
+    record {
+      regs = replicate 16 1;
+      core = record { ic = 2; sw = 3; mk = 4; pi = 5; ft = 6; enabled = true; hold = true };
+      clock = record { ta = 7; tb = 8; taon = false; tbon = false; count = 9 };
+    }
 
 abbrev given : ℕ → ℕ → ℕ → Machine
 given memory pages ports = machine used (replicate memory 10) (replicate pages 16) (replicate ports 12)
@@ -56,7 +61,7 @@ pub data Row : Type 0 where
   refuses : ℕ → ℕ → ℕ → List ℕ → ℕ → Row
 
 unfoldable pub right : Row → Bool
-unfolding machinery resetState cycle resetPages resetMachine wordAt longAt countOf entryAt wordsBefore tableEnd bodyAt wordsFrom asked unlessRefused targetSize endOf share sharesEarlier entryAnswer entriesAnswer imageAnswer admission answerOf controlOf withControl withWords withBody withBodies loaded afterLoading
+unfolding machinery cycle resetPages resetMachine wordAt longAt countOf entryAt wordsBefore tableEnd bodyAt wordsFrom asked unlessRefused targetSize endOf share sharesEarlier entryAnswer entriesAnswer imageAnswer admission answerOf controlOf withControl withWords withBody withBodies loaded afterLoading
 right (loads memory b ws ps s) =
     let x = afterLoading b (given memory 512 1024) in
     eqb (numberOf (answerOf b (given memory 512 1024))) 0

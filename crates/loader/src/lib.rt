@@ -14,6 +14,7 @@ use image::questions::number;
 use image::table::count;
 use image::table::entry_at;
 use image::table::word_at;
+use machine::Core;
 use machine::State;
 use reset::reset;
 
@@ -52,20 +53,20 @@ fn write_registers(s: State, start: usize, image: &[u8], at: usize, n: usize) ->
     t
 }
 
-// The same for its IC, SW, MK, PI and FT.
-fn write_control(s: State, start: usize, image: &[u8], at: usize, n: usize) -> State
+// The same for IC, SW, MK, PI and FT of a core.
+fn write_control(c: Core, start: usize, image: &[u8], at: usize, n: usize) -> Core
     requires { ⌜ (start + n ≤ 5) × (at + 2 * n ≤ length (now image)) ⌝ }
-    ensures { λ r. ⌜ r ≡ withControl s (sets (controlOf s) start (wordsFrom (now (image .entry)) at n)) ⌝ }
+    ensures { λ r. ⌜ r ≡ withControl c (sets (controlOf c) start (wordsFrom (now (image .entry)) at n)) ⌝ }
 {
-    let mut words = [s.ic, s.sw, s.mk, s.pi, s.ft];
+    let mut words = [c.ic, c.sw, c.mk, c.pi, c.ft];
     write_words(&mut words, start, image, at, n);
-    let mut t = s;
-    t.ic = words[0];
-    t.sw = words[1];
-    t.mk = words[2];
-    t.pi = words[3];
-    t.ft = words[4];
-    t
+    let mut d = c;
+    d.ic = words[0];
+    d.sw = words[1];
+    d.mk = words[2];
+    d.pi = words[3];
+    d.ft = words[4];
+    d
 }
 
 // The body of an entry, which starts at byte `at`; the ports, whatever they hold, stay.
@@ -94,7 +95,10 @@ fn write_body(
     if e.kind == 3 {
         return write_registers(s, start, image, at, n);
     }
-    write_control(s, start, image, at, n)
+    let core = write_control(s.core, start, image, at, n);
+    let mut t = s;
+    t.core = core;
+    t
 }
 
 // The bodies of an image that was accepted.

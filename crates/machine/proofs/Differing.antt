@@ -14,7 +14,7 @@ use Rattle.page.specs.declared.Access.{Access}
 use Rattle.page.specs.declared.Access.the-variants.{Fetch, Read}
 use Rattle.page.specs.Pages.{lockOf, frameOf, registerAt, admits, May, MaySee}
 use Rattle.machine.specs.Machine.{Machine, machine}
-use Rattle.machine.specs.State.{keyOf, groupOf}
+use Rattle.machine.specs.State.{keyOf, groupOf, resetState, withIc, withSw}
 use Rattle.machine.specs.Runs.{runOf, numberOf, answerOf}
 use Rattle.machine.specs.Isolation.{Compared}
 use Rattle.machine.proofs.Opened.{machinery}
@@ -65,7 +65,7 @@ first-page m p h = List·getD-append (replicate 4096 0) m 0 p (subst (λ (n : �
 
 -- whatever the first words of pages 1 and 2 are
 pub compared : (v w v' w' : ℕ) → Compared (holding v w) (holding v' w')
-unfolding keyOf groupOf
+unfolding keyOf groupOf resetState withIc withSw
 compared v w v' w' = record {
   alike = record { state = refl; pages = refl; ports = refl; size = refl };
   keyed = λ (e : _≡_ {A = ℕ} 3 0). omega arith;

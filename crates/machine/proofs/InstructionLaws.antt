@@ -16,12 +16,13 @@ use Rattle.page.specs.declared.Verdict.the-variants.{Clear, Fault}
 use Rattle.page.specs.declared.Span.{Span}
 use Rattle.page.specs.Pages.{lookup, MaySee}
 use Rattle.machine.specs.declared.State.{State}
+use Rattle.machine.specs.declared.Core.{Core}
 use Rattle.machine.specs.declared.Instruction.{Instruction}
 use Rattle.machine.specs.declared.Prepared.{Prepared}
 use Rattle.machine.specs.declared.Prepared.the-variants.{Ready, Denied}
 use Rattle.machine.specs.declared.Class.{Class}
 use Rattle.machine.specs.declared.Class.the-variants.{User, Supervisor, Executive}
-use Rattle.machine.specs.State.{keyOf, groupOf}
+use Rattle.machine.specs.State.{Processor, processor, keyOf, groupOf}
 use Rattle.machine.specs.Machine.{Isa, System, Supervised, done, refused}
 use Rattle.decode.specs.Forms.{operationOf}
 use Rattle.machine.specs.Instructions.{Action, enter, call, fail, affect, govern, View, view, permitted, readyAt, redirected, derived, extended, granted, decoded, fetched, prepared, supervised, operated, accessed, carried, instructed}
@@ -43,10 +44,10 @@ view-ext : (v w : View) → ((a : ℕ) → v .fetch a ≡ w .fetch a) → ((a : 
     → ((k : Access) (p : Span) → v .check k p ≡ w .check k p) → ((p : Span) → v .words p ≡ w .words p) → v ≡ w
 view-ext v w f r c ws = λ i. record { fetch = λ a. f a i; read = λ a. r a i; check = λ k p. c k p i; words = λ p. ws p i }
 
-pub view-same : (s : State) (m₁ m₂ g : List ℕ) → Same (MaySee (keyOf (s .sw)) (groupOf (s .sw)) g) m₁ m₂ → view s m₁ g ≡ view s m₂ g
-view-same s m₁ m₂ g h =
-    let key : ℕ = keyOf (s .sw) in
-    let group : ℕ = groupOf (s .sw) in
+pub view-same : (c : Core) (m₁ m₂ g : List ℕ) → Same (MaySee (keyOf (c .sw)) (groupOf (c .sw)) g) m₁ m₂ → view c m₁ g ≡ view c m₂ g
+view-same c m₁ m₂ g h =
+    let key : ℕ = keyOf (c .sw) in
+    let group : ℕ = groupOf (c .sw) in
     let n : ℕ = length m₂ in
     let S : ℕ → Type 0 = MaySee key group g in
     rw (h .size) (view-ext _ _
@@ -69,65 +70,66 @@ Governed Q (affect e p) = Unit {0}
 Governed Q (govern r) = Q r
 
 -- an instruction that is ready is permitted
-abbrev Allowed : Isa → State → Prepared → Type 0
-Allowed isa s (Ready i) = T (permitted (isa .class (operationOf (i .form))) (keyOf (s .sw)))
-Allowed isa s (Denied b a) = Unit {0}
+abbrev Allowed : Isa → Processor → Prepared → Type 0
+Allowed isa p (Ready i) = T (permitted (isa .class (operationOf (i .form))) (keyOf (p .core .sw)))
+Allowed isa p (Denied b a) = Unit {0}
 
-module _ (isa : Isa) (s : State) (v : View) (f w : ℕ) (t : T (permitted (isa .class (operationOf f)) (keyOf (s .sw)))) where
-  redirected-allowed : (x : ℕ) (q : Got) → Allowed isa s (redirected s f w x q)
+module _ (isa : Isa) (p : Processor) (v : View) (f w : ℕ) (t : T (permitted (isa .class (operationOf f)) (keyOf (p .core .sw)))) where
+  redirected-allowed : (x : ℕ) (q : Got) → Allowed isa p (redirected (p .core) f w x q)
   unfolding redirected readyAt
   redirected-allowed x (Word a) = t
   redirected-allowed x (Missed b) = tt
 
-  derived-allowed : (x : ℕ) (b : Bool) → Allowed isa s (derived isa s v f w x b)
+  derived-allowed : (x : ℕ) (b : Bool) → Allowed isa p (derived isa p v f w x b)
   unfolding derived readyAt
   derived-allowed x false = t
   derived-allowed x true = redirected-allowed x _
 
-  extended-allowed : (q : Got) → Allowed isa s (extended isa s v f w q)
+  extended-allowed : (q : Got) → Allowed isa p (extended isa p v f w q)
   unfolding extended
   extended-allowed (Word x) = derived-allowed x _
   extended-allowed (Missed b) = tt
 
-module _ (isa : Isa) (s : State) (v : View) where
-  granted-allowed : (f w : ℕ) (b l : Bool) → (T b → T (permitted (isa .class (operationOf f)) (keyOf (s .sw)))) → Allowed isa s (granted isa s v f w b l)
+module _ (isa : Isa) (p : Processor) (v : View) where
+  granted-allowed : (f w : ℕ) (b l : Bool) → (T b → T (permitted (isa .class (operationOf f)) (keyOf (p .core .sw)))) → Allowed isa p (granted isa p v f w b l)
   unfolding granted
   granted-allowed f w false l t = tt
-  granted-allowed f w true false t = derived-allowed isa s v f w (t tt) 0 _
-  granted-allowed f w true true t = extended-allowed isa s v f w (t tt) _
+  granted-allowed f w true false t = derived-allowed isa p v f w (t tt) 0 _
+  granted-allowed f w true true t = extended-allowed isa p v f w (t tt) _
 
-  decoded-allowed : (f w : ℕ) (b : Bool) → Allowed isa s (decoded isa s v f w b)
+  decoded-allowed : (f w : ℕ) (b : Bool) → Allowed isa p (decoded isa p v f w b)
   unfolding decoded
   decoded-allowed f w true = tt
   decoded-allowed f w false = granted-allowed f w _ _ (λ t. t)
 
-  fetched-allowed : (q : Got) → Allowed isa s (fetched isa s v q)
+  fetched-allowed : (q : Got) → Allowed isa p (fetched isa p v q)
   unfolding fetched
   fetched-allowed (Word w) = decoded-allowed (isa .decode w) w _
   fetched-allowed (Missed b) = tt
 
-  module _ (g o : List ℕ) (Q : System → Type 0) (h : keyOf (s .sw) ≡ 0 → (i : Instruction) (ws : List ℕ) → OnDone Q (isa .supervise s g o i ws)) where
-    supervised-governed : (i : Instruction) (u : Supervised) → OnDone Q u → Governed Q (supervised s i u)
-    unfolding supervised
-    supervised-governed i (done r) d = d
-    supervised-governed i (refused b) d = tt
+module _ (isa : Isa) (s : State) (v : View) (g o : List ℕ) (Q : System → Type 0)
+    (h : keyOf (s .core .sw) ≡ 0 → (i : Instruction) (ws : List ℕ) → OnDone Q (isa .supervise s g o i ws)) where
+  supervised-governed : (i : Instruction) (u : Supervised) → OnDone Q u → Governed Q (supervised (s .core) i u)
+  unfolding supervised
+  supervised-governed i (done r) d = d
+  supervised-governed i (refused b) d = tt
 
-    operated-governed : (c : Class) → T (permitted c (keyOf (s .sw))) → (i : Instruction) (ws : List ℕ) → Governed Q (operated isa s g o c i ws)
-    unfolding operated permitted
-    operated-governed User t i ws = tt
-    operated-governed Supervisor t i ws = supervised-governed i _ (h (eqb→eq (keyOf (s .sw)) 0 t) i ws)
-    operated-governed Executive t i ws = tt
+  operated-governed : (c : Class) → T (permitted c (keyOf (s .core .sw))) → (i : Instruction) (ws : List ℕ) → Governed Q (operated isa s g o c i ws)
+  unfolding operated permitted
+  operated-governed User t i ws = tt
+  operated-governed Supervisor t i ws = supervised-governed i _ (h (eqb→eq (keyOf (s .core .sw)) 0 t) i ws)
+  operated-governed Executive t i ws = tt
 
-    accessed-governed : (i : Instruction) → T (permitted (isa .class (operationOf (i .form))) (keyOf (s .sw))) → (c : Verdict) → Governed Q (accessed isa s g o v i c)
-    unfolding accessed
-    accessed-governed i t (Fault b) = tt
-    accessed-governed i t Clear = operated-governed (isa .class (operationOf (i .form))) t i _
+  accessed-governed : (i : Instruction) → T (permitted (isa .class (operationOf (i .form))) (keyOf (s .core .sw))) → (c : Verdict) → Governed Q (accessed isa s g o v i c)
+  unfolding accessed
+  accessed-governed i t (Fault b) = tt
+  accessed-governed i t Clear = operated-governed (isa .class (operationOf (i .form))) t i _
 
-    carried-governed : (p : Prepared) → Allowed isa s p → Governed Q (carried isa s g o v p)
-    unfolding carried
-    carried-governed (Denied b a) t = tt
-    carried-governed (Ready i) t = accessed-governed i t _
+  carried-governed : (p : Prepared) → Allowed isa (processor s) p → Governed Q (carried isa s g o v p)
+  unfolding carried
+  carried-governed (Denied b a) t = tt
+  carried-governed (Ready i) t = accessed-governed i t _
 
-    pub instructed-governed : Governed Q (instructed isa s g o v)
-    unfolding instructed prepared
-    instructed-governed = carried-governed _ (fetched-allowed _)
+  pub instructed-governed : Governed Q (instructed isa s g o v)
+  unfolding instructed prepared
+  instructed-governed = carried-governed _ (fetched-allowed isa (processor s) v _)

@@ -8,10 +8,10 @@ use Rattle.machine.specs.Entries.{takeable, lowest, chosen, faultOf, got
 use Rattle.machine.specs.Instructions.{permitted, readyAt, redirected, derived, extended, granted, decoded, fetched, prepared, both, supervised, operated, accessed, carried, instructed}
 use Rattle.machine.specs.Machine.{nextOf}
 use Rattle.machine.specs.Runs.{numberOf, wholePages, asked, admission, answerOf, stepsOf, made, items, consUnless, steps, left, answers, afterRuns, timeline, total, firstEntry, beforeEntry}
-use Rattle.machine.specs.State.{csOf, keyOf, groupOf, withCs, withRegs, withIc, withSw, withMk, withPi, withFt, withEnabled, withHold, withTa, withTb, withTaOn, withTbOn, withCount, advanced}
-use Rattle.machine.specs.Step.{released, faulted, affected, stored, entered, perform, counted, risesB, risen, passing, ticked, tick, isEntry, begun, action, step}
+use Rattle.machine.specs.State.{csOf, keyOf, groupOf, withCs, withIc, withSw, withMk, withPi, withFt, withEnabled, withHold, withTa, withTb, withTaOn, withTbOn, withCount, resetState, advanced}
+use Rattle.machine.specs.Step.{released, begunFrom, faulted, affected, stored, entered, perform, counted, risesB, risen, passing, elapsed, expired, ticked, tick, isEntry, begun, action, step}
 use Rattle.machine.specs.Timelines.{stepsIn, hereOr, stepsLater, afterItem, play, entryIn}
 
 unfoldable pub machinery : Unit {0}
-unfolding lockOf protectOf frameOf setOf registerAt admits barred physical placed through present lookup wrapped gotAt wordOf putAt andThen passed checkedFrom checked readFrom wordsOf writtenFrom written bit setBit resetBit testBit bytes upperByte lowerByte loadUpper loadLower storeMasked storeUpper storeLower exchange inclusiveOr logicalAnd exclusiveOr logicalNand takeable lowest chosen faultOf gotZero vectorOf callOf oldWords linked linkStored refusalOf machineError arrived permitted readyAt redirected derived extended granted decoded fetched prepared both supervised operated accessed carried instructed nextOf numberOf wholePages asked admission answerOf stepsOf made items consUnless steps left answers afterRuns timeline total firstEntry beforeEntry csOf keyOf groupOf withCs withRegs withIc withSw withMk withPi withFt withEnabled withHold withTa withTb withTaOn withTbOn withCount advanced released faulted affected stored entered perform counted risesB risen passing ticked tick isEntry begun action step stepsIn hereOr stepsLater afterItem play entryIn
+unfolding lockOf protectOf frameOf setOf registerAt admits barred physical placed through present lookup wrapped gotAt wordOf putAt andThen passed checkedFrom checked readFrom wordsOf writtenFrom written bit setBit resetBit testBit bytes upperByte lowerByte loadUpper loadLower storeMasked storeUpper storeLower exchange inclusiveOr logicalAnd exclusiveOr logicalNand takeable lowest chosen faultOf gotZero vectorOf callOf oldWords linked linkStored refusalOf machineError arrived permitted readyAt redirected derived extended granted decoded fetched prepared both supervised operated accessed carried instructed nextOf numberOf wholePages asked admission answerOf stepsOf made items consUnless steps left answers afterRuns timeline total firstEntry beforeEntry csOf keyOf groupOf withCs withIc withSw withMk withPi withFt withEnabled withHold withTa withTb withTaOn withTbOn withCount resetState advanced released begunFrom faulted affected stored entered perform counted risesB risen passing elapsed expired ticked tick isEntry begun action step stepsIn hereOr stepsLater afterItem play entryIn
 machinery = tt

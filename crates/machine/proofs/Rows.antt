@@ -14,13 +14,14 @@ use Rattle.machine.specs.declared.Instruction.{Instruction}
 use Rattle.machine.specs.declared.Class.{Class}
 use Rattle.machine.specs.declared.Class.the-variants.{User, Supervisor, Executive}
 use Rattle.bits.specs.Bits.{weight}
-use Rattle.machine.specs.State.{withIc, withHold}
+use Rattle.machine.specs.State.{Processor, resetState, withCore, withClock, withIc, withPi, withHold}
 use Rattle.machine.specs.Machine.{Machine, machine, Isa, Effect, Supervised, done, refused, nextOf, spanFrom}
 use Rattle.decode.specs.Forms.{operationOf}
 use Rattle.machine.specs.Entries.{chosen}
 use Rattle.machine.specs.Step.{ticked, step}
 use Rattle.machine.specs.Runs.{runOf, numberOf, admission, answers, afterRuns, total, firstEntry, beforeEntry}
 use Rattle.machine.proofs.Opened.{machinery}
+use Rattle.machine.proofs.Samples.{coreParts, clockParts}
 
 -- ---- a small instruction set: a word is its own form, and the second word is the address
 
@@ -29,37 +30,42 @@ abbrev classOf : ℕ → Class
 classOf op = cond (eqb op 1) Supervisor (cond (eqb op 30) Executive User)
 
 -- 2 reads a word, 3 writes one, 5 does both
-abbrev readsOf : State → Instruction → Span
-readsOf s i = spanFrom (i .address) (cond (eqb (operationOf (i .form)) 2) 1 (cond (eqb (operationOf (i .form)) 5) 1 0))
+abbrev readsOf : List ℕ → Instruction → Span
+readsOf regs i = spanFrom (i .address) (cond (eqb (operationOf (i .form)) 2) 1 (cond (eqb (operationOf (i .form)) 5) 1 0))
 
-abbrev writesOf : State → Instruction → Span
-writesOf s i = spanFrom (i .address) (cond (eqb (operationOf (i .form)) 3) 1 (cond (eqb (operationOf (i .form)) 5) 1 0))
+abbrev writesOf : List ℕ → Instruction → Span
+writesOf regs i = spanFrom (i .address) (cond (eqb (operationOf (i .form)) 3) 1 (cond (eqb (operationOf (i .form)) 5) 1 0))
 
 -- R0 gets the word read, CS 0101; BEEF is stored
-abbrev executeOf : State → Instruction → List ℕ → Effect
-executeOf s i ws = record { regs = set (s .regs) 0 (getD ws 0 0); ic = nextOf s i; cs = 5; pi = s .pi; words = set sixteenZeros 0 0xBEEF }
+abbrev executeOf : Processor → Instruction → List ℕ → Effect
+executeOf p i ws = record { regs = set (p .regs) 0 (getD ws 0 0); ic = nextOf (p .core) i; cs = 5; pi = p .core .pi; words = set sixteenZeros 0 0xBEEF }
 
 abbrev superviseOf : State → List ℕ → List ℕ → Instruction → List ℕ → Supervised
 superviseOf s g o i ws =
-    cond (ltb (i .address) 0x8000) (done (record { state = withHold (withIc s (nextOf s i)) true; pages = set g 0 (i .address); ports = set o 0 (i .address) }))
+    cond (ltb (i .address) 0x8000) (done (record { state = withCore s (withHold (withIc (s .core) (nextOf (s .core) i)) true); pages = set g 0 (i .address); ports = set o 0 (i .address) }))
     (refused (weight 5))
 
 abbrev small : Isa
-small = record { decode = λ w. w; class = classOf; base = λ mode s w x. x; reads = readsOf; writes = writesOf; execute = executeOf; supervise = superviseOf }
+small = record { decode = λ w. w; class = classOf; base = λ mode p w x. x; reads = readsOf; writes = writesOf; execute = executeOf; supervise = superviseOf }
 
 -- ---- machines
 
 -- IC, SW, MK, PI, enabled, hold; FT is 1, R15 is 15, timer A at 30 runs, timer B at 40 does not, and the counter is 9
 abbrev state : ℕ → ℕ → ℕ → ℕ → Bool → Bool → State
-state ic sw mk pi enabled hold = record { regs = set sixteenZeros 15 15; ic = ic; sw = sw; mk = mk; pi = pi; ft = 1; enabled = enabled; hold = hold; ta = 30; tb = 40; taon = true; tbon = false; count = 9 }
+state ic sw mk pi enabled hold =
+    record {
+      regs = set sixteenZeros 15 15;
+      core = record { ic = ic; sw = sw; mk = mk; pi = pi; ft = 1; enabled = enabled; hold = hold };
+      clock = record { ta = 30; tb = 40; taon = true; tbon = false; count = 9 };
+    }
 
 -- what every step makes of the rest: the counter and timer A rise, the rest stays
 abbrev restRight : State → Bool
-restRight s = equal (getD (s .regs) 15 0 ∷ s .ta ∷ s .tb ∷ flag (s .taon) ∷ flag (s .tbon) ∷ s .count ∷ []) (15 ∷ 31 ∷ 40 ∷ 1 ∷ 0 ∷ 10 ∷ [])
+restRight s = equal (getD (s .regs) 15 0 ∷ clockParts (s .clock)) (15 ∷ 31 ∷ 40 ∷ 1 ∷ 0 ∷ 10 ∷ [])
 
 -- PI, timers A and B, their marks, the counter
 abbrev timed : ℕ → ℕ → ℕ → Bool → Bool → ℕ → State
-timed pi ta tb taon tbon count = record { regs = replicate 16 0; ic = 0; sw = 0; mk = 0; pi = pi; ft = 0; enabled = false; hold = false; ta = ta; tb = tb; taon = taon; tbon = tbon; count = count }
+timed pi ta tb taon tbon count = withClock (withCore resetState (withPi (resetState .core) pi)) (record { ta = ta; tb = tb; taon = taon; tbon = tbon; count = count })
 
 -- n words d but for those given by their addresses
 abbrev filled : ℕ → ℕ → List (ℕ × ℕ) → List ℕ
@@ -72,8 +78,7 @@ wordsAt n ws = filled n 0 ws
 -- IC, SW, MK, PI, FT, enabled, hold, R0, page register 0, port 0, and the words at some addresses
 abbrev shown : List ℕ → Machine → List ℕ
 shown places x =
-    x .state .ic ∷ x .state .sw ∷ x .state .mk ∷ x .state .pi ∷ x .state .ft ∷ flag (x .state .enabled) ∷ flag (x .state .hold)
-    ∷ getD (x .state .regs) 0 0 ∷ getD (x .pages) 0 0 ∷ getD (x .ports) 0 0 ∷ map (λ a. getD (x .memory) a 0) places
+    coreParts (x .state .core) ++ (getD (x .state .regs) 0 0 ∷ getD (x .pages) 0 0 ∷ getD (x .ports) 0 0 ∷ map (λ a. getD (x .memory) a 0) places)
 
 -- the number of a step, the first being 1
 abbrev stepOf : Option ℕ → ℕ
@@ -97,16 +102,16 @@ pub data Row : Type 0 where
 
 unfoldable pub right : Row → Bool
 unfolding machinery
-right (choice pi mk enabled hold n) = eqb (chosen (state 0 0 mk pi enabled hold)) n
+right (choice pi mk enabled hold n) = eqb (chosen (state 0 0 mk pi enabled hold .core)) n
 right (ticking pi ta tb taon tbon count r) =
-    let s = ticked (timed pi ta tb taon tbon count) in equal (s .pi ∷ s .ta ∷ s .tb ∷ s .count ∷ []) r
+    let s = ticked (timed pi ta tb taon tbon count) in equal (s .core .pi ∷ s .clock .ta ∷ s .clock .tb ∷ s .clock .count ∷ []) r
 right (asking memory pages ports count budget n) = eqb (numberOf (admission memory pages ports count budget)) n
 right (stepping s m ps places r) = let x = step small (machine s m (filled 512 0xF000 ps) (replicate 4 0)) in equal (shown places x) r && restRight (x .state)
 right (running s w bs r before) =
     let x = machine s (wordsAt 4096 ((0, w) ∷ [])) (replicate 512 0xF000) (replicate 1024 0) in
     let rs = map runOf bs in
     equal (total small rs x ∷ stepOf (firstEntry small rs x) ∷ map numberOf (answers small rs x)) r
-    && (equal (map (λ q. q .budget) (beforeEntry small rs x)) before && eqb (afterRuns small rs x .state .count) (s .count + total small rs x))
+    && (equal (map (λ q. q .budget) (beforeEntry small rs x)) before && eqb (afterRuns small rs x .state .clock .count) (s .clock .count + total small rs x))
 
 pub choices : List Row
 choices =

@@ -12,11 +12,11 @@ use lib.ListN.{length}
 use Rattle.page.specs.Pages.{MaySee}
 use Rattle.page.specs.Spans.{written}
 use Rattle.machine.specs.declared.State.{State}
-use Rattle.machine.specs.State.{keyOf, groupOf, withCs, withRegs, withIc, withSw, withPi, withFt, withHold, withTa, withTb, withCount}
+use Rattle.machine.specs.State.{keyOf, groupOf, withCs, withIc, withSw, withPi, withFt, withHold}
 use Rattle.machine.specs.Machine.{Machine, machine, Isa}
 use Rattle.machine.specs.Instructions.{Action, enter, call, fail, affect, govern, View}
 use Rattle.machine.specs.Entries.{chosen}
-use Rattle.machine.specs.Step.{released, faulted, affected, stored, perform, ticked, tick, isEntry, begun, action, step}
+use Rattle.machine.specs.Step.{released, begunFrom, faulted, affected, stored, perform, ticked, tick, isEntry, begun, action, step}
 use Rattle.machine.specs.Timelines.{Item, stepped, hereOr, stepsLater, afterItem, play, entryIn}
 use Rattle.machine.specs.Isolation.{Alike, key, group, Compared, Found}
 use Rattle.page.proofs.ReachLaws.{written-barred}
@@ -68,15 +68,16 @@ pub keeps-group : (sw cs : ℕ) → groupOf (withCs sw cs) ≡ groupOf sw
 unfolding groupOf withCs
 keeps-group sw cs = omega arith
 
-module _ (isa : Isa) (s : State) (m₁ m₂ g o : List ℕ) (h : Same (MaySee (keyOf (s .sw)) (groupOf (s .sw)) g) m₁ m₂) where
+module _ (isa : Isa) (s : State) (m₁ m₂ g o : List ℕ) (h : Same (MaySee (keyOf (s .core .sw)) (groupOf (s .core .sw)) g) m₁ m₂) where
   action-shared : action isa (machine s m₁ g o) ≡ action isa (machine s m₂ g o)
-  unfolding action released withHold
-  action-shared = ap (λ (v : View). begun isa (released s) g o v (chosen s) (ltb (chosen s) 16)) (view-same (released s) m₁ m₂ g h)
+  unfolding action begunFrom released withHold
+  action-shared =
+      ap (λ (v : View). begun isa (begunFrom s) g o v (chosen (s .core)) (ltb (chosen (s .core)) 16)) (view-same (released (s .core)) m₁ m₂ g h)
 
   -- an action that is no entry and nothing privileged
   performed-found : (d : Action) → isEntry d ≡ false → Governed (λ r. ⊥) d
-      → Found (machine s m₁ g o) (machine s m₂ g o) (tick (perform (released s) m₁ g o d)) (tick (perform (released s) m₂ g o d))
-  unfolding perform tick isEntry stored released withHold faulted affected ticked withRegs withIc withSw withPi withFt withTa withTb withCount
+      → Found (machine s m₁ g o) (machine s m₂ g o) (tick (perform (begunFrom s) m₁ g o d)) (tick (perform (begunFrom s) m₂ g o d))
+  unfolding perform tick isEntry stored begunFrom released withHold faulted affected ticked withIc withSw withPi withFt
   performed-found (enter n) e u = absurd (true≢false e)
   performed-found (call n) e u = absurd (true≢false e)
   performed-found (fail b a) e u = record {
@@ -89,8 +90,8 @@ module _ (isa : Isa) (s : State) (m₁ m₂ g o : List ℕ) (h : Same (MaySee (k
     group-kept = refl;
   }
   performed-found (affect f p) e u =
-      let k : ℕ = keyOf (s .sw) in
-      let a : ℕ = groupOf (s .sw) in
+      let k : ℕ = keyOf (s .core .sw) in
+      let a : ℕ = groupOf (s .core .sw) in
       let z : ℕ = length m₂ in
       let w : Same (MaySee k a g) (written k a g z p (f .words) m₁) (written k a g z p (f .words) m₂) = written-same k a g z p (MaySee k a g) (f .words) m₁ m₂ h in
       rw (h .size) (record {
@@ -99,21 +100,21 @@ module _ (isa : Isa) (s : State) (m₁ m₂ g o : List ℕ) (h : Same (MaySee (k
         first-kept = λ q n. written-barred k a g z p (f .words) m₁ q n;
         second-kept = λ q n. written-barred k a g z p (f .words) m₂ q n;
         pages-kept = refl;
-        key-kept = keeps-key (s .sw) (f .cs);
-        group-kept = keeps-group (s .sw) (f .cs);
+        key-kept = keeps-key (s .core .sw) (f .cs);
+        group-kept = keeps-group (s .core .sw) (f .cs);
       })
   performed-found (govern r) e u = absurd u
 
-  begun-governed : (v : View) → keyOf (s .sw) ≢ 0 → (n : ℕ) (b : Bool) → Governed (λ r. ⊥) (begun isa (released s) g o v n b)
-  unfolding begun released withHold
+  begun-governed : (v : View) → keyOf (s .core .sw) ≢ 0 → (n : ℕ) (b : Bool) → Governed (λ r. ⊥) (begun isa (begunFrom s) g o v n b)
+  unfolding begun begunFrom released withHold
   begun-governed v k n true = tt
-  begun-governed v k n false = instructed-governed isa (released s) v g o (λ r. ⊥) (λ z. absurd (k z))
+  begun-governed v k n false = instructed-governed isa (begunFrom s) v g o (λ r. ⊥) (λ z. absurd (k z))
 
-  step-shared : keyOf (s .sw) ≢ 0 → isEntry (action isa (machine s m₁ g o)) ≡ false
+  step-shared : keyOf (s .core .sw) ≢ 0 → isEntry (action isa (machine s m₁ g o)) ≡ false
       → Found (machine s m₁ g o) (machine s m₂ g o) (step isa (machine s m₁ g o)) (step isa (machine s m₂ g o))
   unfolding step action
   step-shared k e =
-      rw (← action-shared) (performed-found (action isa (machine s m₁ g o)) e (begun-governed _ k (chosen s) (ltb (chosen s) 16)))
+      rw (← action-shared) (performed-found (action isa (machine s m₁ g o)) e (begun-governed _ k (chosen (s .core)) (ltb (chosen (s .core)) 16)))
 
 -- ---- one step of any two machines that are compared
 

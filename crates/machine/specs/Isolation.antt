@@ -24,10 +24,10 @@ pub record Alike (x y : Machine) : Type 0 where
 
 -- the running key and address state (the Scope's terms) are PS and AS at the start
 abbrev pub key : Machine → ℕ
-key x = keyOf (x .state .sw)
+key x = keyOf (x .state .core .sw)
 
 abbrev pub group : Machine → ℕ
-group x = groupOf (x .state .sw)
+group x = groupOf (x .state .core .sw)
 
 -- the words that the key of x may fetch or read are equal in y and z
 abbrev pub SameWhereSeen : Machine → Machine → Machine → Type 0

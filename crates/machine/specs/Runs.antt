@@ -52,7 +52,7 @@ admission memory pages ports count budget =
 
 -- "Its answer is all it replies besides the state"
 unfoldable pub answerOf : Machine → Run → Answer
-answerOf x r = admission (length (x .memory)) (length (x .pages)) (length (x .ports)) (x .state .count) (r .budget)
+answerOf x r = admission (length (x .memory)) (length (x .pages)) (length (x .ports)) (x .state .clock .count) (r .budget)
 
 -- "An accepted run makes exactly its budget of steps"; a refused one makes none
 unfoldable pub stepsOf : Answer → ℕ → ℕ

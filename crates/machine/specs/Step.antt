@@ -8,9 +8,11 @@ use lib.ListN.{length}
 use Rattle.page.specs.declared.Span.{Span}
 use Rattle.page.specs.Spans.{wrapped, written}
 use Rattle.machine.specs.declared.State.{State}
+use Rattle.machine.specs.declared.Core.{Core}
+use Rattle.machine.specs.declared.Clock.{Clock}
 use Rattle.machine.specs.declared.Vector.{Vector}
 use Rattle.bits.specs.Bits.{weight}
-use Rattle.machine.specs.State.{keyOf, groupOf, withCs, advanced, withRegs, withIc, withSw, withPi, withFt, withHold, withTa, withTb, withCount}
+use Rattle.machine.specs.State.{keyOf, groupOf, withCs, advanced, Processor, joined, processor, withProcessor, withCore, withClock, withIc, withSw, withPi, withFt, withHold, withTa, withTb, withCount}
 use Rattle.machine.specs.Machine.{Machine, machine, Isa, Effect}
 use Rattle.machine.specs.Instructions.{Action, enter, call, fail, affect, govern, View, view, instructed}
 use Rattle.machine.specs.Entries.{chosen, vectorOf, callOf, linked, linkStored, refusalOf, arrived}
@@ -18,44 +20,48 @@ use Rattle.machine.specs.Entries.{chosen, vectorOf, callOf, linked, link
 -- ---- what is done
 
 -- the hold mark is cleared
-unfoldable pub released : State → State
-released s = withHold s false
+unfoldable pub released : Core → Core
+released c = withHold c false
+
+-- the state from which a step acts: its hold mark is cleared
+unfoldable pub begunFrom : State → State
+begunFrom s = withCore s (released (s .core))
 
 -- a fault sets its FT bit b and PI bit 1; of the instruction nothing but IC is left
-unfoldable pub faulted : State → ℕ → ℕ → State
-faulted s b a = withFt (withPi (withIc s a) (bitOr (s .pi) (weight 1))) (bitOr (s .ft) b)
+unfoldable pub faulted : Core → ℕ → ℕ → Core
+faulted c b a = withFt (withPi (withIc c a) (bitOr (c .pi) (weight 1))) (bitOr (c .ft) b)
 
 -- a user's effect: of SW it changes CS alone
-unfoldable pub affected : State → Effect → State
-affected s e = withPi (withSw (withIc (withRegs s (e .regs)) (e .ic)) (withCs (s .sw) (e .cs))) (e .pi)
+unfoldable pub affected : Processor → Effect → Processor
+affected p e = joined (withPi (withSw (withIc (p .core) (e .ic)) (withCs (p .core .sw) (e .cs))) (e .pi)) (e .regs)
 
 -- its stores
-unfoldable pub stored : State → List ℕ → List ℕ → Effect → Span → List ℕ
-stored s m g e p = written (keyOf (s .sw)) (groupOf (s .sw)) g (length m) p (e .words) m
+unfoldable pub stored : Core → List ℕ → List ℕ → Effect → Span → List ℕ
+stored c m g e p = written (keyOf (c .sw)) (groupOf (c .sw)) g (length m) p (e .words) m
 
--- the entry of interrupt n by the vector v
-unfoldable pub entered : State → List ℕ → List ℕ → List ℕ → ℕ → Vector → Machine
-entered s m g o n v =
+-- the entry of interrupt n by the vector v, from the core c
+unfoldable pub entered : State → Core → List ℕ → List ℕ → List ℕ → ℕ → Vector → Machine
+entered s c m g o n v =
     let stores = linked m g v in
-    machine (arrived s n v (bitOr (v .fault) (refusalOf stores))) (linkStored s m g v stores) g o
+    machine (withCore s (arrived c n v (bitOr (v .fault) (refusalOf stores)))) (linkStored c m g v stores) g o
 
 -- BEX is an entry of interrupt 5, from the IC after it; a user's effect leaves page registers and ports
 unfoldable pub perform : State → List ℕ → List ℕ → List ℕ → Action → Machine
-perform s m g o (enter n) = entered s m g o n (vectorOf m g n)
-perform s m g o (call n) = entered (withIc s (advanced s 1)) m g o 5 (callOf m g n)
-perform s m g o (fail b a) = machine (faulted s b a) m g o
-perform s m g o (affect e p) = machine (affected s e) (stored s m g e p) g o
+perform s m g o (enter n) = entered s (s .core) m g o n (vectorOf m g n)
+perform s m g o (call n) = entered s (withIc (s .core) (advanced (s .core) 1)) m g o 5 (callOf m g n)
+perform s m g o (fail b a) = machine (withCore s (faulted (s .core) b a)) m g o
+perform s m g o (affect e p) = machine (withProcessor s (affected (processor s) e)) (stored (s .core) m g e p) g o
 perform s m g o (govern r) = machine (r .state) m (r .pages) (r .ports)
 
 -- ---- last: the counter, then the timers
 
 -- the counter after it rose; no accepted run lets it pass the end of its 32 bits
-unfoldable pub counted : State → ℕ
-counted s = (s .count + 1) % 4294967296
+unfoldable pub counted : Clock → ℕ
+counted k = (k .count + 1) % 4294967296
 
 -- a running timer B rises when the counter, as it rose, is a multiple of 10
-unfoldable pub risesB : State → Bool
-risesB s = s .tbon && eqb (counted s % 10) 0
+unfoldable pub risesB : Clock → Bool
+risesB k = k .tbon && eqb (counted k % 10) 0
 
 -- a timer, whether it rises or not
 unfoldable pub risen : Bool → ℕ → ℕ
@@ -65,12 +71,17 @@ risen b t = cond b (wrapped (t + 1)) t
 unfoldable pub passing : Bool → ℕ → ℕ → ℕ
 passing b t n = cond (b && eqb t 65535) (weight n) 0
 
+-- the clock at the end of a step
+unfoldable pub elapsed : Clock → Clock
+elapsed k = withTb (withTa (withCount k (counted k)) (risen (k .taon) (k .ta))) (risen (risesB k) (k .tb))
+
+-- the PI bits of the timers that pass their end there
+unfoldable pub expired : Clock → ℕ
+expired k = bitOr (passing (k .taon) (k .ta) 7) (passing (risesB k) (k .tb) 9)
+
 -- the state at the end of a step
 unfoldable pub ticked : State → State
-ticked s =
-    withPi
-    (withTb (withTa (withCount s (counted s)) (risen (s .taon) (s .ta))) (risen (risesB s) (s .tb)))
-    (bitOr (bitOr (s .pi) (passing (s .taon) (s .ta) 7)) (passing (risesB s) (s .tb) 9))
+ticked s = withClock (withCore s (withPi (s .core) (bitOr (s .core .pi) (expired (s .clock))))) (elapsed (s .clock))
 
 unfoldable pub tick : Machine → Machine
 tick x = machine (ticked (x .state)) (x .memory) (x .pages) (x .ports)
@@ -94,9 +105,9 @@ module _ (isa : Isa) where
   -- what a step does
   unfoldable pub action : Machine → Action
   action x =
-      let s = released (x .state) in
-      begun s (x .pages) (x .ports) (view s (x .memory) (x .pages)) (chosen (x .state)) (ltb (chosen (x .state)) 16)
+      let s = begunFrom (x .state) in
+      begun s (x .pages) (x .ports) (view (s .core) (x .memory) (x .pages)) (chosen (x .state .core)) (ltb (chosen (x .state .core)) 16)
 
   -- the hold mark is cleared for an instruction, and is clear already where an interrupt is entered
   unfoldable pub step : Machine → Machine
-  step x = tick (perform (released (x .state)) (x .memory) (x .pages) (x .ports) (action x))
+  step x = tick (perform (begunFrom (x .state)) (x .memory) (x .pages) (x .ports) (action x))

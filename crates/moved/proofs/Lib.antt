@@ -1,3 +1,4 @@
--- The laws of the time, and of what becomes of the machine by an instruction.
-pub mod TimeLaws
+-- The laws of what an instruction comes to.
+pub mod MovedLaws
 pub mod ActLaws
+pub mod Wrong

@@ -1,2 +1,2 @@
--- What an instruction may leave as it was.
+-- What an instruction comes to, and what it may leave as it was.
 pub mod Settled

@@ -1,21 +1,28 @@
--- What an instruction may leave of a core: the time, and all by which an interrupt is chosen, with key and address state; and the state after it,
--- from a core that may lag. Assumes nothing.
+-- What an instruction comes to, of which a timer command may be left to do; and what it may leave as it was: all by which an interrupt is chosen, with key and
+-- address state. Assumes nothing.
 use Prim.Native.Nat.{ℕ}
 use mathlib.Core.Path.{_≡_}
-use mathlib.Core.Bool.{Bool, true, cond}
+use mathlib.Core.Bool.{Bool, true}
+use mathlib.Core.List.{List}
 use Rattle.machine.specs.declared.State.{State}
 use Rattle.machine.specs.declared.Core.{Core}
-use Rattle.machine.specs.State.{keyOf, groupOf}
-use Rattle.clock.specs.Later.{later}
+use Rattle.machine.specs.declared.Instruction.{Instruction}
+use Rattle.machine.specs.declared.Prepared.the-variants.{Ready}
+use Rattle.machine.specs.State.{keyOf, groupOf, joined, withProcessor}
+use Rattle.machine.specs.Machine.{Became}
+use Rattle.machine.specs.Instructions.{Action, view, carried, instructed}
+use Rattle.machine.specs.Step.{perform}
+use Rattle.isa.specs.Commands.{timerCommand}
+use Rattle.isa.specs.Mil1750.{mil1750}
 use Rattle.moved.specs.declared.Moved.{Moved}
 
--- the timers, whether they run, and the counter are the same
-pub record SameTime (c d : Core) : Type 0 where
-  pub ta-kept : d .ta ≡ c .ta
-  pub tb-kept : d .tb ≡ c .tb
-  pub taon-kept : d .taon ≡ c .taon
-  pub tbon-kept : d .tbon ≡ c .tbon
-  pub count-kept : d .count ≡ c .count
+-- a core, and nothing left to do
+abbrev pub movedTo : Bool → Core → Moved
+movedTo settled c = record { settled = settled; timer = 0; register = 0; core = c }
+
+-- the state after it, from the state s, with the registers r: what is left to do is done last
+abbrev pub after : State → Moved → List ℕ → State
+after s m r = timerCommand (withProcessor s (joined (m .core) r)) (m .register) (m .timer)
 
 -- the choice of an interrupt, the key and the address state are the same
 pub record Settled (c d : Core) : Type 0 where
@@ -26,13 +33,24 @@ pub record Settled (c d : Core) : Type 0 where
   pub key-kept : keyOf (d .sw) ≡ keyOf (c .sw)
   pub group-kept : groupOf (d .sw) ≡ groupOf (c .sw)
 
--- what an instruction from the core c says of itself. Open, for speed, is when it says so: `settled` and `lagging` may be false where they could be true.
--- Then the interrupt is chosen anew, from a core that has caught up (`after`): what the steps come to is the same.
-pub record Lasting (c : Core) (r : Moved) : Type 0 where
-  pub time-kept : r .lagging ≡ true → SameTime c (r .core)
-  pub choice-kept : r .settled ≡ true → Settled c (r .core)
-  pub lags : r .settled ≡ true → r .lagging ≡ true
+-- what an instruction from the core c says of itself. Open, for speed, is when it says so: `settled` may be false where it could be true. Then the interrupt
+-- is chosen anew: what the steps come to is the same. `timer` may be any number that is no timer command, and `register` any where the command does not use it: the state
+-- after it (`after`) is the same.
+pub record Lasting (c : Core) (m : Moved) : Type 0 where
+  pub choice-kept : m .settled ≡ true → Settled c (m .core)
+  pub all-done : m .settled ≡ true → m .timer ≡ 0
 
--- a core that is lagging is n ticks behind the state; one that is not is not
-abbrev pub after : Bool → ℕ → State → State
-after lagging n s = cond lagging (later n s) s
+-- ---- what the code of an instruction ensures
+
+-- what an instruction that is ready does, with the memory m, the page registers g and the ports o, from the state s
+abbrev pub carrying : Instruction → List ℕ → List ℕ → List ℕ → State → Action
+carrying n m g o s = carried mil1750 s g o (view (s .core) m g) (Ready n)
+
+-- what the instruction at IC does
+abbrev pub obeying : List ℕ → List ℕ → List ℕ → State → Action
+obeying m g o s = instructed mil1750 s g o (view (s .core) m g)
+
+-- this action was performed from the core c and the registers r, whatever the rest of the state is: it came to v, registers r', memory m', page registers g' and ports o'
+abbrev pub Performed : (List ℕ → List ℕ → List ℕ → State → Action) → Core → List ℕ → List ℕ → List ℕ → List ℕ → Moved → List ℕ → List ℕ → List ℕ → List ℕ → Type 0
+Performed act c r m g o v r' m' g' o' =
+    ((s : State) → Became (perform (withProcessor s (joined c r)) m g o (act m g o (withProcessor s (joined c r)))) (after s v r') m' g' o') × Lasting c v

@@ -1,52 +1,49 @@
-// The core after an instruction: what came of it, and whether the choice of an interrupt and the time stay as they were. The core may lag some calm
-// ticks behind the state: only the commands of timers see the time.
+// What an instruction comes to: the core after it, whether the choice of an interrupt stays as it was, and a timer command that is still to be done.
 ghost use mathlib.Core.Path.{_≡_};
-ghost use mathlib.Core.Bool.{true, false};
-ghost use mathlib.Core.List.{List};
+ghost use mathlib.Core.Bool.{false};
 ghost use Prim.Native.Nat.{ℕ};
-ghost use Rattle.machine.specs.State.{joined};
-ghost use Rattle.machine.specs.Step.{faulted};
-ghost use Rattle.clock.specs.Later.{later};
-ghost use Rattle.moved.specs.Settled.{Lasting, after};
 ghost use lib.Dec.{eqb};
+ghost use Rattle.machine.specs.Step.{faulted};
+ghost use Rattle.moved.specs.Settled.{movedTo};
 use clock::time::fault;
 use machine::Core;
 
-// The core after an instruction. Where it is settled, no other interrupt is to be chosen than before, by the same key and address state.
-// Where it is lagging, it lags as before; else it does not lag. Neither mark has to be true (`Lasting`).
+// The core after an instruction. Where it is settled, no other interrupt is to be chosen than before, by the same key and address state; it does not
+// have to be (`Lasting`). A timer command, with the number of the register that is its RA, is handed back undone: an instruction has no clock. 0 is none.
 pub struct Moved {
     pub settled: bool,
-    pub lagging: bool,
+    pub timer: u16,
+    pub register: u16,
     pub core: Core,
 }
 
 // After anything but a user's operation that leaves PI.
-pub fn unsettled(lagging: bool, core: Core) -> Moved
-    ensures { λ r. ⌜ (r .core ≡ core) × (r .lagging ≡ lagging) × (r .settled ≡ false) ⌝ }
+pub fn unsettled(core: Core) -> Moved
+    ensures { λ r. ⌜ r ≡ movedTo false core ⌝ }
 {
     Moved {
         settled: false,
-        lagging,
+        timer: 0,
+        register: 0,
         core,
     }
 }
 
 // After a user's operation: it is settled where PI is what it was.
 pub fn weighed(pi: u16, core: Core) -> Moved
-    ensures { λ r. ⌜ (r .settled ≡ eqb (core .pi) pi) × (r .core ≡ core) × (r .lagging ≡ true)
-        × ((n : ℕ) (regs : List ℕ) → after (r .lagging) n (joined (r .core) regs) ≡ later n (joined core regs)) ⌝ }
+    ensures { λ r. ⌜ r ≡ movedTo (eqb (core .pi) pi) core ⌝ }
 {
     Moved {
         settled: core.pi == pi,
-        lagging: true,
+        timer: 0,
+        register: 0,
         core,
     }
 }
 
 // A fault: its FT bit is b, and IC is left at a; PI has changed, so the choice of an interrupt is made again.
 pub fn deny(core: Core, b: u16, a: u16) -> Moved
-    ensures { λ r. ⌜ (r .lagging ≡ true) × ((n : ℕ) (regs : List ℕ) → later n (joined (r .core) regs) ≡ faulted (later n (joined core regs)) b a) × Lasting core r
-        × (r .settled ≡ false) ⌝ }
+    ensures { λ r. ⌜ r ≡ movedTo false (faulted core b a) ⌝ }
 {
-    unsettled(true, fault(core, b, a))
+    unsettled(fault(core, b, a))
 }

@@ -23,9 +23,8 @@ use Rattle.page.proofs.ReachLaws.{OnPlace}
 use Rattle.page.proofs.EachLaws.{along, words-length}
 use Rattle.page.proofs.NearLaws.{Found, found-inside, found-clear, words-at, found-up, found-down}
 use Rattle.decode.specs.Forms.{modeOf, operationOf}
-use Rattle.machine.specs.declared.State.{State}
 use Rattle.machine.specs.declared.Instruction.{Instruction}
-use Rattle.machine.specs.State.{keyOf, groupOf}
+use Rattle.machine.specs.State.{Processor, keyOf, groupOf}
 use Rattle.machine.specs.Machine.{Effect, spanFrom}
 use Rattle.machine.specs.Instructions.{both}
 use Rattle.machine.specs.Step.{affected, stored}
@@ -41,25 +40,25 @@ use Rattle.rearrange.proofs.BlockLaws.{none-chosen, operand-unwritten}
 
 -- ---- an attempt, by its mark
 
-module _ (s : State) (m g : List ℕ) (n : Instruction) (t : State) (w : List ℕ) where
+module _ (s : Processor) (m g : List ℕ) (n : Instruction) (t : Processor) (w : List ℕ) where
   pub attempt-done : (b : Bool) → b ≡ true → Attempted b s m g n t w → Finished s m g n t w
   attempt-done true h a = a
   attempt-done false h a = absurd (false≢true h)
 
   pub attempt-left : (b : Bool) → b ≡ false → Attempted b s m g n t w → (t .regs ≡ s .regs) × (w ≡ m)
   attempt-left true h a = absurd (false≢true (sym h))
-  attempt-left false h a = (ap (λ (x : State). x .regs) (a .0), a .1)
+  attempt-left false h a = (ap (λ (x : Processor). x .regs) (a .0), a .1)
 
 -- ---- an operation whose accesses are open and whose effect is e
 
-module _ (s : State) (m g : List ℕ) (n : Instruction) (from to : Span) (i : readsOf (s .regs) n ≡ from) (j : writesOf (s .regs) n ≡ to) where
-  finished : checked (keyOf (s .sw)) (groupOf (s .sw)) g (length m) from Read ≡ Clear → checked (keyOf (s .sw)) (groupOf (s .sw)) g (length m) to Write ≡ Clear
-      → (e : Effect) → executed (contextOf s) n (wordsOf (keyOf (s .sw)) (groupOf (s .sw)) g (length m) from m) ≡ e
-      → (t : State) (w : List ℕ) → t ≡ affected s e → w ≡ written (keyOf (s .sw)) (groupOf (s .sw)) g (length m) to (e .words) m → Finished s m g n t w
+module _ (s : Processor) (m g : List ℕ) (n : Instruction) (from to : Span) (i : readsOf (s .regs) n ≡ from) (j : writesOf (s .regs) n ≡ to) where
+  finished : checked (keyOf (s .core .sw)) (groupOf (s .core .sw)) g (length m) from Read ≡ Clear → checked (keyOf (s .core .sw)) (groupOf (s .core .sw)) g (length m) to Write ≡ Clear
+      → (e : Effect) → executed (contextOf s) n (wordsOf (keyOf (s .core .sw)) (groupOf (s .core .sw)) g (length m) from m) ≡ e
+      → (t : Processor) (w : List ℕ) → t ≡ affected s e → w ≡ written (keyOf (s .core .sw)) (groupOf (s .core .sw)) g (length m) to (e .words) m → Finished s m g n t w
   unfolding both stored
   finished a b e x t w h k = record {
     admitted = rw (i, j, a) b;
-    worked = record { state-is = rw (i, x) h; memory-is = rw (i, j, x) k };
+    worked = record { processor-is = rw (i, x) h; memory-is = rw (i, j, x) k };
   }
 
 -- ---- one word, which was found
@@ -79,7 +78,7 @@ module _ (key group : ℕ) (g : List ℕ) (size a q : ℕ) where
 
 -- ---- MOV, with a count that is not zero
 
-module _ (s : State) (m g : List ℕ) (n : Instruction) (o : operationOf (n .form) ≡ 47) (c : eqb (register (s .regs) (fieldA (n .first) + 1)) 0 ≡ false) where
+module _ (s : Processor) (m g : List ℕ) (n : Instruction) (o : operationOf (n .form) ≡ 47) (c : eqb (register (s .regs) (fieldA (n .first) + 1)) 0 ≡ false) where
   moves-from : readsOf (s .regs) n ≡ spanFrom (register (s .regs) (fieldB (n .first))) 1
   unfolding readsOf movedSpan
   moves-from = rw (o, c) refl
@@ -92,9 +91,9 @@ module _ (s : State) (m g : List ℕ) (n : Instruction) (o : operationOf (n .for
   unfolding executed contextOf
   moves ws = rw (o, c) refl
 
-  pub moved-here : (p q : ℕ) → lookup Read (keyOf (s .sw)) (groupOf (s .sw)) g (length m) (register (s .regs) (fieldB (n .first))) ≡ At p
-      → lookup Write (keyOf (s .sw)) (groupOf (s .sw)) g (length m) (register (s .regs) (fieldA (n .first))) ≡ At q
-      → (t : State) (w : List ℕ) → t ≡ affected s (movedWord (contextOf s) n (getD m p 0) (eqb (register (s .regs) (fieldA (n .first) + 1)) 0)) → w ≡ set m q (getD m p 0)
+  pub moved-here : (p q : ℕ) → lookup Read (keyOf (s .core .sw)) (groupOf (s .core .sw)) g (length m) (register (s .regs) (fieldB (n .first))) ≡ At p
+      → lookup Write (keyOf (s .core .sw)) (groupOf (s .core .sw)) g (length m) (register (s .regs) (fieldA (n .first))) ≡ At q
+      → (t : Processor) (w : List ℕ) → t ≡ affected s (movedWord (contextOf s) n (getD m p 0) (eqb (register (s .regs) (fieldA (n .first) + 1)) 0)) → w ≡ set m q (getD m p 0)
       → Finished s m g n t w
   unfolding movedWord rearranged
   moved-here p q e f t w h i =
@@ -193,34 +192,34 @@ registers-few : (a b : ℕ) → registersFrom a b ≤ 16
 unfolding registersFrom
 registers-few a b = omega arith
 
-module _ (s : State) (m g : List ℕ) (n : Instruction) where
+module _ (s : Processor) (m g : List ℕ) (n : Instruction) where
   -- ---- LM
 
-  pub loaded-here : operationOf (n .form) ≡ 40 → (p : ℕ) → RowAt Read (keyOf (s .sw)) (groupOf (s .sw)) g (length m) (n .address) (fieldA (n .first) + 1) p
-      → (t : State) (w : List ℕ) → t ≡ affected s (loadedAll (contextOf s) n (drop p m)) → w ≡ m → Finished s m g n t w
+  pub loaded-here : operationOf (n .form) ≡ 40 → (p : ℕ) → RowAt Read (keyOf (s .core .sw)) (groupOf (s .core .sw)) g (length m) (n .address) (fieldA (n .first) + 1) p
+      → (t : Processor) (w : List ℕ) → t ≡ affected s (loadedAll (contextOf s) n (drop p m)) → w ≡ m → Finished s m g n t w
   unfolding readsOf writesOf allFrom wordsWritten executed loadedAll rearranged
   loaded-here o p r t w h i =
       let from = spanFrom (n .address) (fieldA (n .first) + 1) in
-      let f : Found (keyOf (s .sw)) (groupOf (s .sw)) g (length m) from Read (upwards p) = found-up _ _ _ _ from Read p (r .0) refl (r .1) (r .2) in
-      let ws = wordsOf (keyOf (s .sw)) (groupOf (s .sw)) g (length m) from m in
+      let f : Found (keyOf (s .core .sw)) (groupOf (s .core .sw)) g (length m) from Read (upwards p) = found-up _ _ _ _ from Read p (r .0) refl (r .1) (r .2) in
+      let ws = wordsOf (keyOf (s .core .sw)) (groupOf (s .core .sw)) g (length m) from m in
       let few = field-few (n .first) in
       let alike : take (fieldA (n .first) + 1) ws ≡ take (fieldA (n .first) + 1) (drop p m) =
-      taken-alike (fieldA (n .first) + 1) ws (drop p m) (omega (arith, few, words-length (keyOf (s .sw)) (groupOf (s .sw)) g (length m) from m)) (omega (arith, length-drop p m))
+      taken-alike (fieldA (n .first) + 1) ws (drop p m) (omega (arith, few, words-length (keyOf (s .core .sw)) (groupOf (s .core .sw)) g (length m) from m)) (omega (arith, length-drop p m))
       (λ j l. words-at _ _ _ _ from m (upwards p) f few j l (λ (y : j ≡ 16). omega arith) ∙ sym (getD-drop p m j 0)) in
       finished s m g n from (atOperand n 0) (rw o refl) (rw o refl) (found-clear _ _ _ _ from Read (upwards p) f) (none-open _ _ _ _ n Write)
       (loadedAll (contextOf s) n (drop p m)) (rw (o, alike) refl) t w h (i ∙ operand-unwritten _ _ _ _ n _ m)
 
   -- ---- POPM
 
-  pub popped-here : operationOf (n .form) ≡ 44 → (p : ℕ) → RowAt Read (keyOf (s .sw)) (groupOf (s .sw)) g (length m) (register (s .regs) 15) (registersFrom (fieldA (n .first)) (fieldB (n .first))) p
-      → (t : State) (w : List ℕ) → t ≡ affected s (poppedAll (contextOf s) n (drop p m)) → w ≡ m → Finished s m g n t w
+  pub popped-here : operationOf (n .form) ≡ 44 → (p : ℕ) → RowAt Read (keyOf (s .core .sw)) (groupOf (s .core .sw)) g (length m) (register (s .regs) 15) (registersFrom (fieldA (n .first)) (fieldB (n .first))) p
+      → (t : Processor) (w : List ℕ) → t ≡ affected s (poppedAll (contextOf s) n (drop p m)) → w ≡ m → Finished s m g n t w
   unfolding readsOf writesOf poppedSpan wordsWritten executed poppedAll rearranged contextOf
   popped-here o p r t w h i =
       let a = fieldA (n .first) in
       let k = registersFrom a (fieldB (n .first)) in
       let from = poppedSpan (s .regs) n in
-      let f : Found (keyOf (s .sw)) (groupOf (s .sw)) g (length m) from Read (upwards p) = found-up _ _ _ _ from Read p (r .0) refl (r .1) (r .2) in
-      let ws = wordsOf (keyOf (s .sw)) (groupOf (s .sw)) g (length m) from m in
+      let f : Found (keyOf (s .core .sw)) (groupOf (s .core .sw)) g (length m) from Read (upwards p) = found-up _ _ _ _ from Read p (r .0) refl (r .1) (r .2) in
+      let ws = wordsOf (keyOf (s .core .sw)) (groupOf (s .core .sw)) g (length m) from m in
       let few = field-few (n .first) in
       let alike : poppedFrom a ws k 0 (s .regs) ≡ poppedFrom a (drop p m) k 0 (s .regs) =
       popped-alike a ws (drop p m) k 0 (s .regs)
@@ -230,25 +229,25 @@ module _ (s : State) (m g : List ℕ) (n : Instruction) where
 
   -- ---- STM
 
-  pub stored-here : operationOf (n .form) ≡ 50 → (p : ℕ) → RowAt Write (keyOf (s .sw)) (groupOf (s .sw)) g (length m) (n .address) (fieldA (n .first) + 1) p
-      → (t : State) (w : List ℕ) → t ≡ affected s (storedAll (contextOf s) n) → w ≡ storedAt (upwards p) (s .regs) (fieldA (n .first) + 1) 0 m → Finished s m g n t w
+  pub stored-here : operationOf (n .form) ≡ 50 → (p : ℕ) → RowAt Write (keyOf (s .core .sw)) (groupOf (s .core .sw)) g (length m) (n .address) (fieldA (n .first) + 1) p
+      → (t : Processor) (w : List ℕ) → t ≡ affected s (storedAll (contextOf s) n) → w ≡ storedAt (upwards p) (s .regs) (fieldA (n .first) + 1) 0 m → Finished s m g n t w
   unfolding readsOf writesOf allFrom wordsRead wordsMoved executed storedAll rearranged contextOf
   stored-here o p r t w h i =
       let to = spanFrom (n .address) (fieldA (n .first) + 1) in
-      let f : Found (keyOf (s .sw)) (groupOf (s .sw)) g (length m) to Write (upwards p) = found-up _ _ _ _ to Write p (r .0) refl (r .1) (r .2) in
+      let f : Found (keyOf (s .core .sw)) (groupOf (s .core .sw)) g (length m) to Write (upwards p) = found-up _ _ _ _ to Write p (r .0) refl (r .1) (r .2) in
       finished s m g n (atOperand n 0) to (rw o refl) (rw o refl) (none-open _ _ _ _ n Read) (found-clear _ _ _ _ to Write (upwards p) f)
       (storedAll (contextOf s) n) (rw o refl) t w h (i ∙ sym (stored-found _ _ _ _ to (s .regs) (upwards p) f (field-few (n .first)) m))
 
   -- ---- PSHM
 
-  pub pushed-here : operationOf (n .form) ≡ 54 → (p : ℕ) → lookup Write (keyOf (s .sw)) (groupOf (s .sw)) g (length m) (wrapped (register (s .regs) 15 + 65535)) ≡ At p
+  pub pushed-here : operationOf (n .form) ≡ 54 → (p : ℕ) → lookup Write (keyOf (s .core .sw)) (groupOf (s .core .sw)) g (length m) (wrapped (register (s .regs) 15 + 65535)) ≡ At p
       → registersFrom (fieldA (n .first)) (fieldB (n .first)) ≤ wrapped (register (s .regs) 15 + 65535) % 4096 + 1
-      → (t : State) (w : List ℕ) → t ≡ affected s (pushedAll (contextOf s) n)
+      → (t : Processor) (w : List ℕ) → t ≡ affected s (pushedAll (contextOf s) n)
       → w ≡ storedAt (downwards p) (pushedFrom (s .regs) (fieldB (n .first)) (registersFrom (fieldA (n .first)) (fieldB (n .first))) 0) (registersFrom (fieldA (n .first)) (fieldB (n .first))) 0 m
       → Finished s m g n t w
   unfolding readsOf writesOf pushedSpan wordsRead wordsMoved executed pushedAll rearranged contextOf
   pushed-here o p e l t w h i =
       let to = pushedSpan (s .regs) n in
-      let f : Found (keyOf (s .sw)) (groupOf (s .sw)) g (length m) to Write (downwards p) = found-down _ _ _ _ to Write p e refl l in
+      let f : Found (keyOf (s .core .sw)) (groupOf (s .core .sw)) g (length m) to Write (downwards p) = found-down _ _ _ _ to Write p e refl l in
       finished s m g n (atOperand n 0) to (rw o refl) (rw o refl) (none-open _ _ _ _ n Read) (found-clear _ _ _ _ to Write (downwards p) f)
       (pushedAll (contextOf s) n) (rw o refl) t w h (i ∙ sym (stored-found _ _ _ _ to _ (downwards p) f (registers-few _ _) m))

@@ -83,25 +83,15 @@ pub fn work(
     requires { ⌜ (length (now pages) ≡ 512) × (span .count ≤ 3) × (wayOf (operationOf (n .form)) ≡ 0) ⌝ }
     ensures { λ r. ⌜ (joined r (now (regs .exit)) ≡ spec.affected (joined core (now (regs .entry)))
         (ordinary (contextOf (joined core (now (regs .entry)))) n x y z (operationOf (n .form))))
-        × (now (memory .exit) ≡ spec.stored (joined core (now (regs .entry))) (now (memory .entry)) (now (pages .entry))
+        × (now (memory .exit) ≡ spec.stored core (now (memory .entry)) (now (pages .entry))
         (ordinary (contextOf (joined core (now (regs .entry)))) n x y z (operationOf (n .form))) span) ⌝ }
 {
     let e = ordinary(regs, core.ic, core.sw, core.pi, n, x, y, z);
     apply(regs, e);
     store_words(core.sw, memory, pages, span, e.w0, e.w1, e.w2);
-    let sw = with_cs(core.sw, e.cs);
-    Core {
-        ic: e.ic,
-        sw,
-        mk: core.mk,
-        pi: e.pi,
-        ft: core.ft,
-        enabled: core.enabled,
-        hold: core.hold,
-        ta: core.ta,
-        tb: core.tb,
-        taon: core.taon,
-        tbon: core.tbon,
-        count: core.count,
-    }
+    let mut t = core;
+    t.ic = e.ic;
+    t.sw = with_cs(core.sw, e.cs);
+    t.pi = e.pi;
+    t
 }

@@ -12,7 +12,7 @@ use lib.ListN.{length, getD, set, take, replicate, length-set}
 use lib.Seq.{paste, paste-zero, paste-suc, length-take-le, take-all, take-length, drop-length, take-at, getD-append-add}
 use Rattle.packed.specs.Packed.{size, marks, marked, markAt, marksOf, withMarks, layout, unpacked, packed}
 use Rattle.machine.specs.declared.State.{State}
-use Rattle.machine.specs.State.{withRegs, withIc, withSw, withMk, withPi, withFt, withEnabled, withHold, withTa, withTb, withTaOn, withTbOn, withCount}
+use Rattle.machine.specs.State.{withIc, withSw, withMk, withPi, withFt, withEnabled, withHold, withTa, withTb, withTaOn, withTbOn, withCount}
 use Rattle.bits.specs.Bits.{weight}
 
 -- ---- the list s copied into d from word `at` on, after i words
@@ -44,41 +44,45 @@ copied-whole d s e = rw (take-length, zero-add, ← e, drop-length, append-nil) 
 
 pub record Parts (w : List ℕ) (s : State) : Type 0 where
   pub regs-is : s .regs ≡ take 16 w
-  pub ic-is : s .ic ≡ getD w 16 0
-  pub sw-is : s .sw ≡ getD w 17 0
-  pub mk-is : s .mk ≡ getD w 18 0
-  pub pi-is : s .pi ≡ getD w 19 0
-  pub ft-is : s .ft ≡ getD w 20 0
-  pub enabled-is : s .enabled ≡ marked (getD w 21 0) 15
-  pub hold-is : s .hold ≡ marked (getD w 21 0) 14
-  pub taon-is : s .taon ≡ marked (getD w 21 0) 13
-  pub tbon-is : s .tbon ≡ marked (getD w 21 0) 12
-  pub ta-is : s .ta ≡ getD w 22 0
-  pub tb-is : s .tb ≡ getD w 23 0
-  pub count-is : s .count ≡ 65536 * getD w 32 0 + getD w 33 0
+  pub ic-is : s .core .ic ≡ getD w 16 0
+  pub sw-is : s .core .sw ≡ getD w 17 0
+  pub mk-is : s .core .mk ≡ getD w 18 0
+  pub pi-is : s .core .pi ≡ getD w 19 0
+  pub ft-is : s .core .ft ≡ getD w 20 0
+  pub enabled-is : s .core .enabled ≡ marked (getD w 21 0) 15
+  pub hold-is : s .core .hold ≡ marked (getD w 21 0) 14
+  pub taon-is : s .clock .taon ≡ marked (getD w 21 0) 13
+  pub tbon-is : s .clock .tbon ≡ marked (getD w 21 0) 12
+  pub ta-is : s .clock .ta ≡ getD w 22 0
+  pub tb-is : s .clock .tb ≡ getD w 23 0
+  pub count-is : s .clock .count ≡ 65536 * getD w 32 0 + getD w 33 0
 
 pub from-parts : (w : List ℕ) (s : State) → Parts w s → s ≡ unpacked w
-unfolding unpacked layout marks withMarks withRegs withIc withSw withMk withPi withFt withEnabled withHold withTa withTb withTaOn withTbOn withCount
+unfolding unpacked layout marks withMarks withIc withSw withMk withPi withFt withEnabled withHold withTa withTb withTaOn withTbOn withCount
 from-parts w s h = λ i. record {
   regs = h .regs-is i;
-  ic = h .ic-is i;
-  sw = h .sw-is i;
-  mk = h .mk-is i;
-  pi = h .pi-is i;
-  ft = h .ft-is i;
-  enabled = h .enabled-is i;
-  hold = h .hold-is i;
-  taon = h .taon-is i;
-  tbon = h .tbon-is i;
-  ta = h .ta-is i;
-  tb = h .tb-is i;
-  count = h .count-is i;
+  core = record {
+    ic = h .ic-is i;
+    sw = h .sw-is i;
+    mk = h .mk-is i;
+    pi = h .pi-is i;
+    ft = h .ft-is i;
+    enabled = h .enabled-is i;
+    hold = h .hold-is i;
+  };
+  clock = record {
+    ta = h .ta-is i;
+    tb = h .tb-is i;
+    taon = h .taon-is i;
+    tbon = h .tbon-is i;
+    count = h .count-is i;
+  };
 }
 
 -- ---- the marks
 
 -- their word, one after another
-pub marks-sum : (s : State) → markAt (s .enabled) 15 + markAt (s .hold) 14 + markAt (s .taon) 13 + markAt (s .tbon) 12 ≡ marksOf s
+pub marks-sum : (s : State) → markAt (s .core .enabled) 15 + markAt (s .core .hold) 14 + markAt (s .clock .taon) 13 + markAt (s .clock .tbon) 12 ≡ marksOf s
 unfolding marksOf marks
 marks-sum s = omega arith
 
@@ -109,8 +113,8 @@ weighs false n = rw mul-zero refl
 
 -- the word of four marks
 module _ (s : State) where
-  marks-digits : marksOf s ≡ digit (s .enabled) + 2 * digit (s .hold) + 4 * digit (s .taon) + 8 * digit (s .tbon)
-  marks-digits = omega (arith, marks-sum s, weighs (s .enabled) 15, weighs (s .hold) 14, weighs (s .taon) 13, weighs (s .tbon) 12)
+  marks-digits : marksOf s ≡ digit (s .core .enabled) + 2 * digit (s .core .hold) + 4 * digit (s .clock .taon) + 8 * digit (s .clock .tbon)
+  marks-digits = omega (arith, marks-sum s, weighs (s .core .enabled) 15, weighs (s .core .hold) 14, weighs (s .clock .taon) 13, weighs (s .clock .tbon) 12)
 
   -- its bit n, by the number of the mark there
   marks-at : (n : ℕ) (on : Bool) → marksOf s / weight n % 2 ≡ digit on → marked (marksOf s) n ≡ on
@@ -131,8 +135,8 @@ later a b h n = rw (← h) (getD-append-add a b n 0)
 -- the words after R0 to R15
 abbrev others : State → List ℕ
 others s =
-    (s .ic ∷ s .sw ∷ s .mk ∷ s .pi ∷ s .ft ∷ marksOf s ∷ s .ta ∷ s .tb ∷ [])
-    ++ (replicate 8 0 ++ ((s .count / 65536 ∷ s .count % 65536 ∷ []) ++ replicate 222 0))
+    (s .core .ic ∷ s .core .sw ∷ s .core .mk ∷ s .core .pi ∷ s .core .ft ∷ marksOf s ∷ s .clock .ta ∷ s .clock .tb ∷ [])
+    ++ (replicate 8 0 ++ ((s .clock .count / 65536 ∷ s .clock .count % 65536 ∷ []) ++ replicate 222 0))
 
 -- a state with sixteen registers
 pub registers-first : (s : State) → length (s .regs) ≡ 16 → packed s ≡ s .regs ++ others s
@@ -147,9 +151,9 @@ unpacked-packed s h =
     let high = at 16 in
     let low = at 17 in
     let d = marks-digits s in
-    let e = digit-below (s .enabled) in
-    let f = digit-below (s .hold) in
-    let g = digit-below (s .taon) in
+    let e = digit-below (s .core .enabled) in
+    let f = digit-below (s .core .hold) in
+    let g = digit-below (s .clock .taon) in
     sym
     (from-parts (packed s) s (record {
       regs-is = sym (ap (take 16) p ∙ take-at (s .regs) (others s) 16 h);
@@ -158,10 +162,10 @@ unpacked-packed s h =
       mk-is = at 2;
       pi-is = at 3;
       ft-is = at 4;
-      enabled-is = bit 15 (s .enabled) (omega arith);
-      hold-is = bit 14 (s .hold) (omega arith);
-      taon-is = bit 13 (s .taon) (omega arith);
-      tbon-is = bit 12 (s .tbon) (omega (arith, digit-below (s .tbon)));
+      enabled-is = bit 15 (s .core .enabled) (omega arith);
+      hold-is = bit 14 (s .core .hold) (omega arith);
+      taon-is = bit 13 (s .clock .taon) (omega arith);
+      tbon-is = bit 12 (s .clock .tbon) (omega (arith, digit-below (s .clock .tbon)));
       ta-is = at 6;
       tb-is = at 7;
       count-is = omega arith;
@@ -174,7 +178,7 @@ one-more m c h = mod-mul m (omega arith) h ∙ add-comm _ _ ∙ ap (λ n. m % c 
 -- 256 words: what no part has is cleared, and bits 0 to 11 of the marks
 module _ (w : List ℕ) where
   marks-cleared : marksOf (unpacked w) ≡ getD w 21 0 % 16
-  unfolding unpacked layout marks withMarks marked withRegs withIc withSw withMk withPi withFt withEnabled withHold withTa withTb withTaOn withTbOn withCount
+  unfolding unpacked layout marks withMarks marked withIc withSw withMk withPi withFt withEnabled withHold withTa withTb withTaOn withTbOn withCount
   marks-cleared =
       let m = getD w 21 0 in
       marks-digits (unpacked w) ∙ rw (bit-digit m 15, bit-digit m 14, bit-digit m 13, bit-digit m 12) (rw (one-more m 8 (omega arith), one-more m 4 (omega arith), one-more m 2 (omega arith), div-one m) refl)
@@ -184,7 +188,7 @@ module _ (w : List ℕ) where
       ≡ take 16 w
       ++ ((getD w 16 0 ∷ getD w 17 0 ∷ getD w 18 0 ∷ getD w 19 0 ∷ getD w 20 0 ∷ getD w 21 0 % 16 ∷ getD w 22 0 ∷ getD w 23 0 ∷ [])
       ++ (replicate 8 0 ++ ((getD w 32 0 ∷ getD w 33 0 ∷ []) ++ replicate 222 0)))
-  unfolding unpacked layout marks withMarks withRegs withIc withSw withMk withPi withFt withEnabled withHold withTa withTb withTaOn withTbOn withCount
+  unfolding unpacked layout marks withMarks withIc withSw withMk withPi withFt withEnabled withHold withTa withTb withTaOn withTbOn withCount
   packed-unpacked l h =
       let n = getD w 32 0 in
       let k = getD w 33 0 in

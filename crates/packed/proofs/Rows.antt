@@ -5,25 +5,15 @@ use mathlib.Core.List.{List, [], _∷_, _++_}
 use lib.ListN.{replicate}
 use mathlib.Core.Path.{_≡_, refl}
 use Rattle.machine.specs.declared.State.{State}
-use Rattle.machine.specs.State.{withRegs, withIc, withSw, withMk, withPi, withFt, withEnabled, withHold, withTa, withTb, withTaOn, withTbOn, withCount}
+use Rattle.machine.specs.State.{withIc, withSw, withMk, withPi, withFt, withEnabled, withHold, withTa, withTb, withTaOn, withTbOn, withCount}
 use Rattle.packed.specs.Packed.{marks, marked, markAt, marksOf, withMarks, layout, unpacked, packed}
 
 -- interrupts enabled, no hold mark, both timers running; the counter is 65,536 × 21 + 22
 abbrev known : State
 known = record {
   regs = 0 ∷ 1 ∷ 2 ∷ 3 ∷ 4 ∷ 5 ∷ 6 ∷ 7 ∷ 8 ∷ 9 ∷ 10 ∷ 11 ∷ 12 ∷ 13 ∷ 14 ∷ 15 ∷ [];
-  ic = 16;
-  sw = 17;
-  mk = 18;
-  pi = 19;
-  ft = 20;
-  enabled = true;
-  hold = false;
-  ta = 23;
-  tb = 24;
-  taon = true;
-  tbon = true;
-  count = 1376278;
+  core = record { ic = 16; sw = 17; mk = 18; pi = 19; ft = 20; enabled = true; hold = false };
+  clock = record { ta = 23; tb = 24; taon = true; tbon = true; count = 1376278 };
 }
 
 -- its words, those that no part has being v
@@ -37,5 +27,5 @@ unfolding packed layout marks marksOf markAt
 known-packed = refl
 
 known-unpacked : (v : ℕ) → unpacked (words v) ≡ known
-unfolding unpacked layout marks withMarks marked withRegs withIc withSw withMk withPi withFt withEnabled withHold withTa withTb withTaOn withTbOn withCount
+unfolding unpacked layout marks withMarks marked withIc withSw withMk withPi withFt withEnabled withHold withTa withTb withTaOn withTbOn withCount
 known-unpacked v = refl

@@ -6,13 +6,22 @@ use lib.Dec.{eqb}
 use lib.ListN.{take, drop, getD, replicate}
 use lib.Seq.{paste}
 use Rattle.machine.specs.declared.State.{State}
-use Rattle.machine.specs.State.{withRegs, withIc, withSw, withMk, withPi, withFt, withEnabled, withHold, withTa, withTb, withTaOn, withTbOn, withCount}
+use Rattle.machine.specs.declared.Core.{Core}
+use Rattle.machine.specs.declared.Clock.{Clock}
+use Rattle.machine.specs.State.{withRegs, withCore, withClock, withIc, withSw, withMk, withPi, withFt, withEnabled, withHold, withTa, withTb, withTaOn, withTbOn, withCount, resetState}
 use Rattle.bits.specs.Bits.{weight}
-use Rattle.reset.specs.Reset.{resetState}
 
 -- how many words there are
 abbrev pub size : ℕ
 size = 256
+
+-- ---- the state with a part of its core, or of its clock, changed
+
+abbrev pub inCore : {A : Type 0} → (Core → A → Core) → State → A → State
+inCore put s v = withCore s (put (s .core) v)
+
+abbrev pub inClock : {A : Type 0} → (Clock → A → Clock) → State → A → State
+inClock put s v = withClock s (put (s .clock) v)
 
 -- ---- the marks: one word
 
@@ -28,10 +37,10 @@ mark bit of put = record { bit = bit; of = of; put = put }
 -- bits 0 to 11 are no marks
 unfoldable pub marks : List Mark
 marks =
-    mark 15 (λ s. s .enabled) withEnabled
-    ∷ mark 14 (λ s. s .hold) withHold
-    ∷ mark 13 (λ s. s .taon) withTaOn
-    ∷ mark 12 (λ s. s .tbon) withTbOn
+    mark 15 (λ s. s .core .enabled) (inCore withEnabled)
+    ∷ mark 14 (λ s. s .core .hold) (inCore withHold)
+    ∷ mark 13 (λ s. s .clock .taon) (inClock withTaOn)
+    ∷ mark 12 (λ s. s .clock .tbon) (inClock withTbOn)
     ∷ []
 
 -- whether bit n of a word is one
@@ -81,15 +90,15 @@ double at of put =
 unfoldable pub layout : List Part
 layout =
     words 0 16 (λ s. s .regs) withRegs
-    ∷ word 16 (λ s. s .ic) withIc
-    ∷ word 17 (λ s. s .sw) withSw
-    ∷ word 18 (λ s. s .mk) withMk
-    ∷ word 19 (λ s. s .pi) withPi
-    ∷ word 20 (λ s. s .ft) withFt
+    ∷ word 16 (λ s. s .core .ic) (inCore withIc)
+    ∷ word 17 (λ s. s .core .sw) (inCore withSw)
+    ∷ word 18 (λ s. s .core .mk) (inCore withMk)
+    ∷ word 19 (λ s. s .core .pi) (inCore withPi)
+    ∷ word 20 (λ s. s .core .ft) (inCore withFt)
     ∷ word 21 marksOf withMarks
-    ∷ word 22 (λ s. s .ta) withTa
-    ∷ word 23 (λ s. s .tb) withTb
-    ∷ double 32 (λ s. s .count) withCount
+    ∷ word 22 (λ s. s .clock .ta) (inClock withTa)
+    ∷ word 23 (λ s. s .clock .tb) (inClock withTb)
+    ∷ double 32 (λ s. s .clock .count) (inClock withCount)
     ∷ []
 
 -- the words of a state that some parts make, the others 0; and the state with some parts taken from w

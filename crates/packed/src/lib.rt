@@ -7,6 +7,8 @@ ghost use lib.Dec.{eqb};
 ghost use lib.ListN.{length};
 ghost use lib.Seq.{paste};
 ghost use Rattle.packed.specs.Packed.{size, marksOf, unpacked, packed};
+use machine::Clock;
+use machine::Core;
 use machine::State;
 
 // How many words there are.
@@ -76,7 +78,10 @@ fn mark(on: bool, weight: u16) -> u16
 pub fn marks(s: State) -> u16
     ensures { λ r. ⌜ r ≡ marksOf s ⌝ }
 {
-    mark(s.enabled, ENABLED) + mark(s.hold, HOLD) + mark(s.taon, A_RUNS) + mark(s.tbon, B_RUNS)
+    mark(s.core.enabled, ENABLED)
+        + mark(s.core.hold, HOLD)
+        + mark(s.clock.taon, A_RUNS)
+        + mark(s.clock.tbon, B_RUNS)
 }
 
 // The state that 256 words stand for. Callers have exactly so many, here and below.
@@ -87,8 +92,7 @@ pub fn unpack(words: &[u16]) -> State
     let mut regs = [0u16; 16];
     copy(&mut regs, 0, &words[..16]);
     let on = words[MARKS];
-    State {
-        regs,
+    let core = Core {
         ic: words[IC],
         sw: words[SW],
         mk: words[MK],
@@ -96,12 +100,15 @@ pub fn unpack(words: &[u16]) -> State
         ft: words[FT],
         enabled: marked(on, ENABLED),
         hold: marked(on, HOLD),
+    };
+    let clock = Clock {
         ta: words[TIMER_A],
         tb: words[TIMER_B],
         taon: marked(on, A_RUNS),
         tbon: marked(on, B_RUNS),
         count: 65536 * wide(words[COUNTER]) + wide(words[COUNTER + 1]),
-    }
+    };
+    State { regs, core, clock }
 }
 
 // The 256 words of a state: nothing of what they held stays.
@@ -110,16 +117,16 @@ pub fn pack(s: State, words: &mut [u16])
     ensures { λ _. ⌜ now (words .exit) ≡ packed s ⌝ }
 {
     let mut all = [0u16; SIZE];
-    all[IC] = s.ic;
-    all[SW] = s.sw;
-    all[MK] = s.mk;
-    all[PI] = s.pi;
-    all[FT] = s.ft;
+    all[IC] = s.core.ic;
+    all[SW] = s.core.sw;
+    all[MK] = s.core.mk;
+    all[PI] = s.core.pi;
+    all[FT] = s.core.ft;
     all[MARKS] = marks(s);
-    all[TIMER_A] = s.ta;
-    all[TIMER_B] = s.tb;
-    all[COUNTER] = (s.count / 65536) as u16;
-    all[COUNTER + 1] = (s.count % 65536) as u16;
+    all[TIMER_A] = s.clock.ta;
+    all[TIMER_B] = s.clock.tb;
+    all[COUNTER] = (s.clock.count / 65536) as u16;
+    all[COUNTER + 1] = (s.clock.count % 65536) as u16;
     let regs = s.regs;
     copy(&mut all, 0, &regs);
     copy(words, 0, &all);

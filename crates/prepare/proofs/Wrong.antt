@@ -8,6 +8,7 @@ use Rattle.choice.proofs.Rows.{Row, some, hold}
 use Rattle.machine.specs.declared.State.{State}
 use Rattle.machine.specs.declared.Prepared.{Prepared}
 use Rattle.machine.specs.declared.Prepared.the-variants.{Ready, Denied}
+use Rattle.machine.specs.State.{processor}
 use Rattle.machine.specs.Instructions.{view, prepared}
 use Rattle.machine.proofs.Opened.{machinery}
 use Rattle.machine.proofs.Samples.{stateAt}
@@ -33,7 +34,7 @@ pub rows : List Row
 unfolding words decoder machinery instructions
 rows =
     -- prepare: the index register left out; the register RA as index
-    some (shown (prepared mil1750 s (view s memory (replicate 512 0))))
+    some (shown (prepared mil1750 (processor s) (view (s .core) memory (replicate 512 0))))
     (0x2626 ∷ 0x8012 ∷ 5 ∷ 107 ∷ []) (0x2626 ∷ 0x8012 ∷ 5 ∷ 5 ∷ []) (0x2626 ∷ 0x8012 ∷ 5 ∷ 106 ∷ [])
     ∷ []
 

@@ -1,5 +1,5 @@
 // An instruction up to its accesses (Scope, "One step", 2): fetch, decode, privilege, second word, derived address. Each stage is the
-// definition's, at the state of a core and the registers lent beside it; key and group are those of its SW. Callers have 512 page registers:
+// definition's, of a core and the registers lent beside it; key and group are those of its SW. Callers have 512 page registers:
 // a run asks for them.
 ghost use mathlib.Core.Path.{_≡_};
 ghost use mathlib.Core.Bool.{true, cond};
@@ -66,7 +66,7 @@ fn ready(form: u16, first: u16, second: u16, address: u16) -> Prepared
 
 // The word read at an indirect address is the derived address.
 fn redirect(core: Core, form: u16, w: u16, x: u16, got: Got) -> Prepared
-    ensures { λ r. ⌜ ((regs : List ℕ) → r ≡ redirected (joined core regs) form w x got) ⌝ }
+    ensures { λ r. ⌜ r ≡ redirected core form w x got ⌝ }
 {
     match got {
         Got::Word(a) => ready(form, w, x, a),
@@ -88,7 +88,7 @@ fn derive(
 ) -> Prepared
     requires { ⌜ (length (now pages) ≡ 512) × (key ≡ keyOf (core .sw)) × (group ≡ groupOf (core .sw)) × (group < 16) ⌝ }
     ensures { λ r. ⌜ r ≡ derived mil1750 (joined core (now (regs .entry)))
-        (view (joined core (now (regs .entry))) (now (memory .entry)) (now (pages .entry))) form w x (eqb (modeOf form) 7) ⌝ }
+        (view core (now (memory .entry)) (now (pages .entry))) form w x (eqb (modeOf form) 7) ⌝ }
 {
     let a = access::addressing::derive(form, regs, core.ic, w, x);
     if form / 256 % 16 == mode::I {
@@ -142,7 +142,7 @@ fn extend(
     requires { ⌜ (length (now pages) ≡ 512) × (key ≡ keyOf (core .sw)) × (group ≡ groupOf (core .sw)) × (group < 16)
         × (lookup Access.Fetch key group (now pages) (length (now memory)) (core .ic) ≡ Place.At at) ⌝ }
     ensures { λ r. ⌜ r ≡ granted mil1750 (joined core (now (regs .entry)))
-        (view (joined core (now (regs .entry))) (now (memory .entry)) (now (pages .entry))) form w true (eqb (lengthOf form) 2) ⌝ }
+        (view core (now (memory .entry)) (now (pages .entry))) form w true (eqb (lengthOf form) 2) ⌝ }
 {
     let second = second_word(core.ic, at, key, group, memory, pages, form);
     match second {
@@ -167,7 +167,7 @@ pub fn prepare(
     requires { ⌜ (length (now pages) ≡ 512) × (key ≡ keyOf (core .sw)) × (group ≡ groupOf (core .sw)) × (group < 16)
         × (lookup Access.Fetch key group (now pages) (length (now memory)) (core .ic) ≡ Place.At at) ⌝ }
     ensures { λ r. ⌜ r ≡ decoded mil1750 (joined core (now (regs .entry)))
-        (view (joined core (now (regs .entry))) (now (memory .entry)) (now (pages .entry))) (number % 65536) w (eqb (number % 65536) 0) ⌝ }
+        (view core (now (memory .entry)) (now (pages .entry))) (number % 65536) w (eqb (number % 65536) 0) ⌝ }
 {
     let form = (number % 65536) as u16;
     if form == 0 {

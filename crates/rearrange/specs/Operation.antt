@@ -5,10 +5,9 @@ use mathlib.Core.Bool.{Bool, true, false}
 use mathlib.Core.List.{List, [], _∷_}
 use lib.ListN.{length}
 use Rattle.choice.specs.Select.{select}
-use Rattle.machine.specs.declared.State.{State}
 use Rattle.machine.specs.declared.Instruction.{Instruction}
 use Rattle.machine.specs.Machine.{Effect}
-use Rattle.machine.specs.State.{keyOf, groupOf}
+use Rattle.machine.specs.State.{Processor, keyOf, groupOf}
 use Rattle.machine.specs.Step.{affected, stored}
 use Rattle.machine.specs.Instructions.{both}
 use Rattle.page.specs.declared.Access.the-variants.{Read, Write}
@@ -22,17 +21,17 @@ use Rattle.isa.specs.Execute.{executed}
 unfoldable pub isBlock : ℕ → Bool
 isBlock operation = select operation ((40, true) ∷ (44, true) ∷ (47, true) ∷ (50, true) ∷ (54, true) ∷ (90, true) ∷ []) false
 
--- the state t and the memory w are those after the effect e of the instruction n, from the state s, the memory m and the page registers g
-pub record Worked (s : State) (m g : List ℕ) (n : Instruction) (e : Effect) (t : State) (w : List ℕ) : Type 0 where
-  pub state-is : t ≡ affected s e
-  pub memory-is : w ≡ stored s m g e (writesOf (s .regs) n)
+-- the processor q and the memory w are those after the effect e of the instruction n, from the processor p, the memory m and the page registers g
+pub record Worked (p : Processor) (m g : List ℕ) (n : Instruction) (e : Effect) (q : Processor) (w : List ℕ) : Type 0 where
+  pub processor-is : q ≡ affected p e
+  pub memory-is : w ≡ stored (p .core) m g e (writesOf (p .regs) n)
 
 -- all accesses of the instruction n are open, and it has worked
-pub record Finished (s : State) (m g : List ℕ) (n : Instruction) (t : State) (w : List ℕ) : Type 0 where
-  pub admitted : both (checked (keyOf (s .sw)) (groupOf (s .sw)) g (length m) (readsOf (s .regs) n) Read) (checked (keyOf (s .sw)) (groupOf (s .sw)) g (length m) (writesOf (s .regs) n) Write) ≡ Clear
-  pub worked : Worked s m g n (executed (contextOf s) n (wordsOf (keyOf (s .sw)) (groupOf (s .sw)) g (length m) (readsOf (s .regs) n) m)) t w
+pub record Finished (p : Processor) (m g : List ℕ) (n : Instruction) (q : Processor) (w : List ℕ) : Type 0 where
+  pub admitted : both (checked (keyOf (p .core .sw)) (groupOf (p .core .sw)) g (length m) (readsOf (p .regs) n) Read) (checked (keyOf (p .core .sw)) (groupOf (p .core .sw)) g (length m) (writesOf (p .regs) n) Write) ≡ Clear
+  pub worked : Worked p m g n (executed (contextOf p) n (wordsOf (keyOf (p .core .sw)) (groupOf (p .core .sw)) g (length m) (readsOf (p .regs) n) m)) q w
 
--- an attempt is finished, or has left the state and the memory as they were
-abbrev pub Attempted : Bool → State → List ℕ → List ℕ → Instruction → State → List ℕ → Type 0
-Attempted true s m g n t w = Finished s m g n t w
-Attempted false s m g n t w = (t ≡ s) × (w ≡ m)
+-- an attempt is finished, or has left the processor and the memory as they were
+abbrev pub Attempted : Bool → Processor → List ℕ → List ℕ → Instruction → Processor → List ℕ → Type 0
+Attempted true p m g n q w = Finished p m g n q w
+Attempted false p m g n q w = (q ≡ p) × (w ≡ m)

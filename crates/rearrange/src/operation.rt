@@ -30,20 +30,10 @@ use machine::Instruction;
 fn settle(core: Core, ic: u16, cs: u16) -> Core
     ensures { λ r. ⌜ ((regs after ws : List ℕ) → joined r after ≡ affected (joined core regs) (rearranged (contextOf (joined core regs)) after ic cs ws)) ⌝ }
 {
-    Core {
-        ic,
-        sw: cs % 16 * 4096 + core.sw % 4096,
-        mk: core.mk,
-        pi: core.pi,
-        ft: core.ft,
-        enabled: core.enabled,
-        hold: core.hold,
-        ta: core.ta,
-        tb: core.tb,
-        taon: core.taon,
-        tbon: core.tbon,
-        count: core.count,
-    }
+    let mut t = core;
+    t.ic = ic;
+    t.sw = cs % 16 * 4096 + core.sw % 4096;
+    t
 }
 
 // On to the next instruction; CS is kept.

@@ -1,14 +1,15 @@
 -- Known texts, computed: the Scope's report and refusal byte for byte, and decimal numbers. Assumes nothing.
 use Prim.Native.Nat.{ℕ}
-use mathlib.Core.Bool.{true, false}
 use mathlib.Core.List.{List, [], _∷_, _++_}
 use mathlib.Core.Path.{_≡_, refl}
 use Rattle.machine.specs.declared.State.{State}
+use Rattle.machine.proofs.Opened.{machinery}
+use Rattle.machine.proofs.Samples.{stateAt, stepsOn}
 use Rattle.report.specs.Report.{digit, hex, leading, decimal, stepsLine, named, controlLine, registers, registersLine, reportOf, refusalOf}
 
 -- the Scope's example after its 1,000 steps: R3 = 0010, IC 0001, SW 4000 (the report shows neither marks, timers nor counter)
 abbrev example : State
-example = record { regs = 0 ∷ 0 ∷ 0 ∷ 16 ∷ 0 ∷ 0 ∷ 0 ∷ 0 ∷ 0 ∷ 0 ∷ 0 ∷ 0 ∷ 0 ∷ 0 ∷ 0 ∷ 0 ∷ []; ic = 1; sw = 16384; mk = 0; pi = 0; ft = 0; enabled = false; hold = false; ta = 1000; tb = 100; taon = true; tbon = true; count = 1000 }
+example = stepsOn 1000 (stateAt (0 ∷ 0 ∷ 0 ∷ 16 ∷ 0 ∷ 0 ∷ 0 ∷ 0 ∷ 0 ∷ 0 ∷ 0 ∷ 0 ∷ 0 ∷ 0 ∷ 0 ∷ 0 ∷ []) 1 0x4000)
 
 -- "steps 1000"
 abbrev pub line1 : List ℕ
@@ -31,7 +32,7 @@ abbrev pub exampleLines : List ℕ
 exampleLines = line1 ++ (line2 ++ (line3 ++ line4))
 
 example-lines : reportOf 1000 example ≡ exampleLines
-unfolding digit hex leading decimal stepsLine named controlLine registers registersLine reportOf
+unfolding machinery digit hex leading decimal stepsLine named controlLine registers registersLine reportOf
 example-lines = refl
 
 -- "refused 13"

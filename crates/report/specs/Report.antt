@@ -6,6 +6,7 @@ use mathlib.Core.Path.{_≡_}
 use lib.Dec.{ltb}
 use lib.ListN.{length, take, drop, getD}
 use Rattle.machine.specs.declared.State.{State}
+use Rattle.machine.specs.declared.Core.{Core}
 
 -- ---- characters: their numbers in ASCII
 
@@ -54,13 +55,13 @@ unfoldable pub named : List ℕ → ℕ → ℕ → List ℕ
 named name w end = name ++ (hex w ++ (end ∷ []))
 
 -- five registers by name: "ic ", "sw ", "mk ", "pi ", "ft "
-unfoldable pub controlLine : State → List ℕ
-controlLine s =
-    named (105 ∷ 99 ∷ 32 ∷ []) (s .ic) blank
-    ++ (named (115 ∷ 119 ∷ 32 ∷ []) (s .sw) blank
-    ++ (named (109 ∷ 107 ∷ 32 ∷ []) (s .mk) blank
-    ++ (named (112 ∷ 105 ∷ 32 ∷ []) (s .pi) blank
-    ++ named (102 ∷ 116 ∷ 32 ∷ []) (s .ft) newline)))
+unfoldable pub controlLine : Core → List ℕ
+controlLine c =
+    named (105 ∷ 99 ∷ 32 ∷ []) (c .ic) blank
+    ++ (named (115 ∷ 119 ∷ 32 ∷ []) (c .sw) blank
+    ++ (named (109 ∷ 107 ∷ 32 ∷ []) (c .mk) blank
+    ++ (named (112 ∷ 105 ∷ 32 ∷ []) (c .pi) blank
+    ++ named (102 ∷ 116 ∷ 32 ∷ []) (c .ft) newline)))
 
 -- n general registers from the given one on, each after a blank
 unfoldable pub registers : List ℕ → ℕ → ℕ → List ℕ
@@ -72,7 +73,7 @@ unfoldable pub registersLine : List ℕ → ℕ → List ℕ
 registersLine regs first = 114 ∷ digit first ∷ (registers regs first 8 ++ (newline ∷ []))
 
 unfoldable pub reportOf : ℕ → State → List ℕ
-reportOf steps s = stepsLine steps ++ (controlLine s ++ (registersLine (s .regs) 0 ++ registersLine (s .regs) 8))
+reportOf steps s = stepsLine steps ++ (controlLine (s .core) ++ (registersLine (s .regs) 0 ++ registersLine (s .regs) 8))
 
 -- ---- a refusal: its number after the word "refused "
 

@@ -11,6 +11,7 @@ use crate::text::put;
 use crate::text::put_bytes;
 use crate::text::put_decimal;
 use crate::text::put_hex;
+use machine::Core;
 use machine::State;
 
 // The line of the steps: at most 17 bytes.
@@ -34,15 +35,15 @@ fn put_named(out: &mut [u8; 256], at: usize, name: &[u8; 3], word: u16, end: u8)
 }
 
 // The line of the five registers by name: 40 bytes.
-fn put_control(out: &mut [u8; 256], at: usize, s: State) -> usize
+fn put_control(out: &mut [u8; 256], at: usize, c: Core) -> usize
     requires { ⌜ at + 40 ≤ 256 ⌝ }
-    ensures { λ r. ⌜ (Wrote (now (out .entry)) at (controlLine s) (now (out .exit)) r) × (r ≡ at + 40) ⌝ }
+    ensures { λ r. ⌜ (Wrote (now (out .entry)) at (controlLine c) (now (out .exit)) r) × (r ≡ at + 40) ⌝ }
 {
-    let at = put_named(out, at, b"ic ", s.ic, b' ');
-    let at = put_named(out, at, b"sw ", s.sw, b' ');
-    let at = put_named(out, at, b"mk ", s.mk, b' ');
-    let at = put_named(out, at, b"pi ", s.pi, b' ');
-    put_named(out, at, b"ft ", s.ft, b'\n')
+    let at = put_named(out, at, b"ic ", c.ic, b' ');
+    let at = put_named(out, at, b"sw ", c.sw, b' ');
+    let at = put_named(out, at, b"mk ", c.mk, b' ');
+    let at = put_named(out, at, b"pi ", c.pi, b' ');
+    put_named(out, at, b"ft ", c.ft, b'\n')
 }
 
 // A general register after a blank: 5 bytes.
@@ -85,7 +86,7 @@ pub fn report(steps: u32, s: State, out: &mut [u8; 256]) -> usize
 {
     let regs = s.regs;
     let at = put_steps(out, 0, steps);
-    let at = put_control(out, at, s);
+    let at = put_control(out, at, s.core);
     let at = put_line(out, at, &regs, 0);
     put_line(out, at, &regs, 8)
 }

@@ -2,8 +2,11 @@
 ghost use mathlib.Core.Path.{_≡_};
 ghost use Prim.Native.Nat.{_<_, _≤_};
 ghost use lib.ListN.{length};
+ghost use Rattle.machine.specs.State.{resetState};
 ghost use Rattle.machine.specs.Machine.{Became};
-ghost use Rattle.reset.specs.Reset.{resetState, cycle, resetMachine};
+ghost use Rattle.reset.specs.Reset.{cycle, resetMachine};
+use machine::Clock;
+use machine::Core;
 use machine::State;
 
 // Each word its number modulo a period: 16 numbers the pages of every group, 1 makes all words 0; there is no other caller.
@@ -22,8 +25,7 @@ fn fill(words: &mut [u16], period: usize)
 pub fn reset_state() -> State
     ensures { λ r. ⌜ r ≡ resetState ⌝ }
 {
-    State {
-        regs: [0; 16],
+    let core = Core {
         ic: 0,
         sw: 0,
         mk: 0,
@@ -31,11 +33,18 @@ pub fn reset_state() -> State
         ft: 0,
         enabled: false,
         hold: false,
+    };
+    let clock = Clock {
         ta: 0,
         tb: 0,
         taon: true,
         tbon: true,
         count: 0,
+    };
+    State {
+        regs: [0; 16],
+        core,
+        clock,
     }
 }
 

@@ -4,36 +4,41 @@ ghost use mathlib.Core.Bool.{false, cond};
 ghost use mathlib.Core.List.{List};
 ghost use Prim.Native.Nat.{ℕ, _+_, _-_, _<_, _≤_};
 ghost use lib.ListN.{length};
-ghost use Rattle.machine.specs.State.{joined};
+ghost use Rattle.machine.specs.declared.State.{State};
+ghost use Rattle.machine.specs.State.{joined, withProcessor, withClock};
 ghost use Rattle.machine.specs.Machine.{Became, machine};
 ghost use Rattle.machine.specs.Entries.{chosen};
 ghost use Rattle.machine.specs.Instructions as spec;
-ghost use Rattle.machine.specs.Step.{released, perform};
+ghost use Rattle.machine.specs.Step.{begunFrom, perform, ticked};
 ghost use Rattle.machine.specs.Runs.{steps};
+ghost use Rattle.isa.specs.Commands.{timerCommand};
 ghost use Rattle.isa.specs.Mil1750.{mil1750};
 ghost use Rattle.needs.specs.Needs.{numbers};
 ghost use Rattle.clock.specs.Later.{Calm, later};
-ghost use Rattle.moved.specs.Settled.{SameTime};
 ghost use Rattle.steps.specs.Rows.{rowOf, Made};
 use clock::later::quiet;
 use clock::later::tick_by;
+use clock::time::elapse;
+use clock::time::expire;
+use clock::time::pend;
 use clock::time::release;
-use clock::time::tick;
+use command::timers::time;
 use entry::arrive;
 use entry::link;
 use instruct::instruct;
 use interrupt::pending::choose;
 use interrupt::pointers::vector;
+use machine::Clock;
 use machine::Core;
 use moved::Moved;
 use status_word::group_of;
 use status_word::key_of;
 
-// The entry of interrupt n up to its tick, with any registers and ports, however far the core lags.
+// The entry of interrupt n up to its tick, with any registers and ports, whatever the rest of the state is.
 fn interrupted(core: Core, memory: &mut [u16], pages: &[u16], n: u16) -> Core
     requires { ⌜ (length (now pages) ≡ 512) × (n < 16) ⌝ }
-    ensures { λ r. ⌜ ((lag : ℕ) (regs ports : List ℕ) → Became (perform (released (later lag (joined core regs))) (now (memory .entry)) (now (pages .entry)) ports (spec.enter n))
-        (later lag (joined r regs)) (now (memory .exit)) (now (pages .entry)) ports) × SameTime core r ⌝ }
+    ensures { λ r. ⌜ ((s : State) (regs ports : List ℕ) → Became (perform (begunFrom (withProcessor s (joined core regs))) (now (memory .entry)) (now (pages .entry)) ports (spec.enter n))
+        (withProcessor s (joined r regs)) (now (memory .exit)) (now (pages .entry)) ports) ⌝ }
 {
     let v = vector(memory, pages, n);
     let old = release(core);
@@ -41,12 +46,13 @@ fn interrupted(core: Core, memory: &mut [u16], pages: &[u16], n: u16) -> Core
     arrive(old, n, v, refusal)
 }
 
-// Where a row of steps ended, before its last tick: the steps of the stretch up to there, and whether the core lags all their ticks but the
-// last, or none.
+// Where a row of steps ended, before its last tick: the steps of the stretch up to there, and a timer command that is still to be done, 0 for none, with the
+// register that is its RA.
 pub struct Row {
     pub core: Core,
     pub lag: u32,
-    pub lagging: bool,
+    pub timer: u16,
+    pub register: u16,
 }
 
 // Where a row from a lag on ends at the latest: after one step, where the hold mark was set, since it hid the choice of an interrupt.
@@ -65,7 +71,8 @@ fn ended(moved: Moved, lag: u32) -> Row
     Row {
         core,
         lag,
-        lagging: moved.lagging,
+        timer: moved.timer,
+        register: moved.register,
     }
 }
 
@@ -80,10 +87,9 @@ fn obey(
     ports: &mut [u16],
     table: &[u32; 256],
 ) -> Row
-    requires { ⌜ (length (now pages) ≡ 512) × (length (now ports) ≡ 1024) × (now table ≡ numbers) × (from < most) × Calm (most - 1) core
-        × (16 ≤ chosen (joined core (now regs))) ⌝ }
-    ensures { λ r. ⌜ Made from most core (machine (later from (joined core (now (regs .entry)))) (now (memory .entry)) (now (pages .entry)) (now (ports .entry))) r
-        (now (regs .exit)) (now (memory .exit)) (now (pages .exit)) (now (ports .exit)) ⌝ }
+    requires { ⌜ (length (now pages) ≡ 512) × (length (now ports) ≡ 1024) × (now table ≡ numbers) × (from < most) × (16 ≤ chosen core) ⌝ }
+    ensures { λ r. ⌜ Made from most core (now (regs .entry)) (now (memory .entry)) (now (pages .entry)) (now (ports .entry))
+        r (now (regs .exit)) (now (memory .exit)) (now (pages .exit)) (now (ports .exit)) ⌝ }
 {
     let key = key_of(core.sw);
     let group = group_of(core.sw);
@@ -91,7 +97,7 @@ fn obey(
     let mut t = release(core);
     let mut lag = from;
     loop {
-        let moved = instruct(t, lag, key, group, regs, memory, pages, ports, table);
+        let moved = instruct(t, key, group, regs, memory, pages, ports, table);
         t = moved.core;
         lag += 1;
         if !moved.settled {
@@ -114,16 +120,17 @@ fn turn(
     ports: &mut [u16],
     table: &[u32; 256],
 ) -> Row
-    requires { ⌜ (length (now pages) ≡ 512) × (length (now ports) ≡ 1024) × (now table ≡ numbers) × (lag < most) × Calm (most - 1) core ⌝ }
-    ensures { λ r. ⌜ Made lag most core (machine (later lag (joined core (now (regs .entry)))) (now (memory .entry)) (now (pages .entry)) (now (ports .entry))) r
-        (now (regs .exit)) (now (memory .exit)) (now (pages .exit)) (now (ports .exit)) ⌝ }
+    requires { ⌜ (length (now pages) ≡ 512) × (length (now ports) ≡ 1024) × (now table ≡ numbers) × (lag < most) ⌝ }
+    ensures { λ r. ⌜ Made lag most core (now (regs .entry)) (now (memory .entry)) (now (pages .entry)) (now (ports .entry))
+        r (now (regs .exit)) (now (memory .exit)) (now (pages .exit)) (now (ports .exit)) ⌝ }
 {
     let n = choose(core.hold, core.enabled, core.mk, core.pi);
     if n < 16 {
         return Row {
             core: interrupted(core, memory, pages, n),
             lag: lag + 1,
-            lagging: true,
+            timer: 0,
+            register: 0,
         };
     }
     obey(core, lag, most, regs, memory, pages, ports, table)
@@ -132,12 +139,38 @@ fn turn(
 // What is left of some steps after the first of them.
 pub struct Rest {
     pub core: Core,
+    pub clock: Clock,
     pub left: u32,
 }
 
-// Of n steps the first ones: as many as there are until a timer may pass its end or a command has seen the time. Their ticks are made at once.
+// The end of a stretch of n steps, of which `lag` are made, and all their ticks but the last calm: the clock is brought up to date, then a timer command that is
+// still to be done is done, then comes the last tick.
+fn finish(
+    core: Core,
+    clock: Clock,
+    regs: &mut [u16; 16],
+    register: u16,
+    timer: u16,
+    lag: u32,
+    n: u32,
+) -> Rest
+    requires { ⌜ Calm (lag - 1) clock × (0 < lag) × (lag ≤ n) ⌝ }
+    ensures { λ r. ⌜ (r .left ≡ n - lag) × ((s : State) → withClock (withProcessor s (joined (r .core) (now (regs .exit)))) (r .clock)
+        ≡ ticked (timerCommand (withClock (withProcessor s (joined core (now (regs .entry)))) (later (lag - 1) clock)) register timer)) ⌝ }
+{
+    let late = tick_by(clock, lag - 1);
+    let set = time(late, regs, register, timer);
+    Rest {
+        core: pend(core, expire(set)),
+        clock: elapse(set),
+        left: n - lag,
+    }
+}
+
+// Of n steps the first ones: as many as there are until a timer may pass its end or a timer command is made. Their ticks are made at once.
 pub fn go_on(
     core: Core,
+    clock: Clock,
     regs: &mut [u16; 16],
     memory: &mut [u16],
     pages: &mut [u16],
@@ -146,28 +179,22 @@ pub fn go_on(
     n: u32,
 ) -> Rest
     requires { ⌜ (length (now pages) ≡ 512) × (length (now ports) ≡ 1024) × (now table ≡ numbers) × (0 < n) ⌝ }
-    ensures { λ r. ⌜ (r .left < n) × (steps mil1750 n (machine (joined core (now (regs .entry))) (now (memory .entry)) (now (pages .entry)) (now (ports .entry)))
-        ≡ steps mil1750 (r .left) (machine (joined (r .core) (now (regs .exit))) (now (memory .exit)) (now (pages .exit)) (now (ports .exit)))) ⌝ }
+    ensures { λ r. ⌜ (r .left < n) × ((s : State)
+        → steps mil1750 n (machine (withClock (withProcessor s (joined core (now (regs .entry)))) clock) (now (memory .entry)) (now (pages .entry)) (now (ports .entry)))
+        ≡ steps mil1750 (r .left) (machine (withClock (withProcessor s (joined (r .core) (now (regs .exit)))) (r .clock)) (now (memory .exit)) (now (pages .exit)) (now (ports .exit)))) ⌝ }
 {
-    let most = quiet(core, n - 1) + 1;
+    let most = quiet(clock, n - 1) + 1;
     let mut t = core;
     let mut lag = 0;
     loop {
         let made = turn(t, lag, most, regs, memory, pages, ports, table);
         t = made.core;
         lag = made.lag;
-        if !made.lagging {
-            return Rest {
-                core: tick(t),
-                left: n - lag,
-            };
+        if made.timer != 0 {
+            return finish(t, clock, regs, made.register, made.timer, lag, n);
         }
         if most <= lag {
-            let late = tick_by(t, most - 1);
-            return Rest {
-                core: tick(late),
-                left: n - most,
-            };
+            return finish(t, clock, regs, made.register, made.timer, lag, n);
         }
     }
 }

@@ -15,7 +15,7 @@ use Rattle.machine.specs.declared.Core.{Core}
 use Rattle.machine.specs.declared.Instruction.{Instruction}
 use Rattle.machine.specs.declared.Class.the-variants.{Supervisor}
 use Rattle.machine.specs.declared.Prepared.the-variants.{Ready}
-use Rattle.machine.specs.State.{keyOf, groupOf, joined}
+use Rattle.machine.specs.State.{keyOf, groupOf, withCore}
 use Rattle.machine.specs.Machine.{Became, spanFrom}
 use Rattle.machine.specs.Instructions.{Action, fail, call, govern, view, both, supervised, operated, carried}
 use Rattle.machine.specs.Step.{perform}
@@ -29,67 +29,64 @@ use Rattle.gather.specs.declared.Gathered.{Gathered}
 use Rattle.gather.specs.Gathers.{gathered}
 use Rattle.accumulate.proofs.WayLaws.{way-system, way-reads, way-writes}
 use Rattle.accumulate.proofs.EndLaws.{none-checked}
-use Rattle.clock.specs.Later.{later}
 use Rattle.moved.proofs.ActLaws.{carried-clear, words-read, carried-read, carried-denied, accessed-clear}
-use Rattle.system.proofs.PrivilegedLaws.{status-unseen}
 
 module _ (s : State) (m g o : List ℕ) (n : Instruction) where
   -- what it does where its accesses are open
   abbrev does : Action
-  does = operated mil1750 s g o (classOf (operationOf (n .form))) n (wordsOf (keyOf (s .sw)) (groupOf (s .sw)) g (length m) (readsOf (s .regs) n) m)
+  does = operated mil1750 s g o (classOf (operationOf (n .form))) n (wordsOf (keyOf (s .core .sw)) (groupOf (s .core .sw)) g (length m) (readsOf (s .regs) n) m)
 
   -- no word is read and none written
   unasked : readsOf (s .regs) n ≡ spanFrom (n .address) (cond (inMemory (modeOf (n .form))) 0 0)
-      → writesOf (s .regs) n ≡ spanFrom (n .address) (cond (inMemory (modeOf (n .form))) 0 0) → does ≡ carried mil1750 s g o (view s m g) (Ready n)
+      → writesOf (s .regs) n ≡ spanFrom (n .address) (cond (inMemory (modeOf (n .form))) 0 0) → does ≡ carried mil1750 s g o (view (s .core) m g) (Ready n)
   unfolding both
   unasked i j =
-      let none = none-checked (keyOf (s .sw)) (groupOf (s .sw)) g (length m) (n .address) in
+      let none = none-checked (keyOf (s .core .sw)) (groupOf (s .core .sw)) g (length m) (n .address) in
       carried-clear s m g o n _ _ _ refl refl refl (rw (i, j, none Read (inMemory (modeOf (n .form))), none Write (inMemory (modeOf (n .form)))) refl)
 
-  pub xio-carried : wayOf (operationOf (n .form)) ≡ 6 → supervised s n (transferred s g o n) ≡ carried mil1750 s g o (view s m g) (Ready n)
+  pub xio-carried : wayOf (operationOf (n .form)) ≡ 6 → supervised (s .core) n (transferred s g o n) ≡ carried mil1750 s g o (view (s .core) m g) (Ready n)
   unfolding operated mil1750 classOf privilegedOperations supervisedBy
   xio-carried e =
       let p = way-system n 6 e (omega arith) in
       let c : classOf (operationOf (n .form)) ≡ Supervisor = ap classOf p in
       let b : eqb (operationOf (n .form)) 35 ≡ false = ap (λ (j : ℕ). eqb j 35) p in
-      let k : supervised s n (transferred s g o n) ≡ does = rw (c, b) refl in
+      let k : supervised (s .core) n (transferred s g o n) ≡ does = rw (c, b) refl in
       k ∙ unasked (way-reads n 6 0 0 e (omega arith) refl refl refl refl refl (s .regs)) (way-writes n 6 0 0 e (omega arith) refl refl refl refl refl (s .regs))
 
-  pub bex-carried : wayOf (operationOf (n .form)) ≡ 7 → call (n .first % 16) ≡ carried mil1750 s g o (view s m g) (Ready n)
+  pub bex-carried : wayOf (operationOf (n .form)) ≡ 7 → call (n .first % 16) ≡ carried mil1750 s g o (view (s .core) m g) (Ready n)
   unfolding operated mil1750 classOf privilegedOperations
   bex-carried e =
       let k : call (n .first % 16) ≡ does = rw (way-system n 7 e (omega arith)) refl in
       k ∙ unasked (way-reads n 7 0 0 e (omega arith) refl refl refl refl refl (s .regs)) (way-writes n 7 0 0 e (omega arith) refl refl refl refl refl (s .regs))
 
 -- LST: its three words are read, as v
-module _ (s : State) (m g o : List ℕ) (n : Instruction) (e : wayOf (operationOf (n .form)) ≡ 8) (key group : ℕ) (d : key ≡ keyOf (s .sw)) (f : group ≡ groupOf (s .sw)) (v : Gathered)
+module _ (s : State) (m g o : List ℕ) (n : Instruction) (e : wayOf (operationOf (n .form)) ≡ 8) (key group : ℕ) (d : key ≡ keyOf (s .core .sw)) (f : group ≡ groupOf (s .core .sw)) (v : Gathered)
     (i : v ≡ gathered (checked key group g (length m) (atOperand n 3) Read) (wordsOf key group g (length m) (atOperand n 3) m)) where
   reads : spanFrom (n .address) (cond (inMemory (modeOf (n .form))) 3 0) ≡ readsOf (s .regs) n
   reads = sym (way-reads n 8 3 0 e (omega arith) refl refl refl refl refl (s .regs))
 
-  unwritten : checked (keyOf (s .sw)) (groupOf (s .sw)) g (length m) (writesOf (s .regs) n) Write ≡ Clear
+  unwritten : checked (keyOf (s .core .sw)) (groupOf (s .core .sw)) g (length m) (writesOf (s .regs) n) Write ≡ Clear
   unwritten =
       rw (way-writes n 8 3 0 e (omega arith) refl refl refl refl refl (s .regs))
-      (none-checked (keyOf (s .sw)) (groupOf (s .sw)) g (length m) (n .address) Write (inMemory (modeOf (n .form))))
+      (none-checked (keyOf (s .core .sw)) (groupOf (s .core .sw)) g (length m) (n .address) Write (inMemory (modeOf (n .form))))
 
-  pub lst-denied : v .clear ≡ false → fail (v .fault) (wrapped (s .ic + lengthOf (n .form))) ≡ carried mil1750 s g o (view s m g) (Ready n)
+  pub lst-denied : v .clear ≡ false → fail (v .fault) (wrapped (s .core .ic + lengthOf (n .form))) ≡ carried mil1750 s g o (view (s .core) m g) (Ready n)
   unfolding atOperand
   lst-denied h = carried-denied s m g n key group d f _ _ v reads i o h
 
   pub lst-carried : v .clear ≡ true
-      → govern (record { state = statusLoaded s (v .x) (v .y) (v .z); pages = g; ports = o }) ≡ carried mil1750 s g o (view s m g) (Ready n)
+      → govern (record { state = withCore s (statusLoaded (s .core) (v .x) (v .y) (v .z)); pages = g; ports = o }) ≡ carried mil1750 s g o (view (s .core) m g) (Ready n)
   unfolding atOperand operated mil1750 classOf privilegedOperations supervisedBy becomes supervised
   lst-carried h =
       let w = words-read s m g n key group d f _ _ v reads i h in
       let p = way-system n 8 e (omega arith) in
       let c : classOf (operationOf (n .form)) ≡ Supervisor = ap classOf p in
       let b : eqb (operationOf (n .form)) 35 ≡ true = ap (λ (j : ℕ). eqb j 35) p in
-      let k : govern (record { state = statusLoaded s (v .x) (v .y) (v .z); pages = g; ports = o }) ≡ does s m g o n =
+      let k : govern (record { state = withCore s (statusLoaded (s .core) (v .x) (v .y) (v .z)); pages = g; ports = o }) ≡ does s m g o n =
       rw (c, b, w .first-is, w .second-is, w .third-is) refl in
       k ∙ accessed-clear s m g o n _ _ _ _ refl refl refl refl unwritten ∙ carried-read s m g n key group d f _ _ v reads i o h
 
-pub lst-became : (lag : ℕ) (c t : Core) (regs m g o : List ℕ) (x y z : ℕ) → joined t regs ≡ statusLoaded (joined c regs) x y z
-    → Became (perform (later lag (joined c regs)) m g o (govern (record { state = statusLoaded (later lag (joined c regs)) x y z; pages = g; ports = o })))
-    (later lag (joined t regs)) m g o
+pub lst-became : (s : State) (d : Core) (m g o : List ℕ) (x y z : ℕ) → d ≡ statusLoaded (s .core) x y z
+    → Became (perform s m g o (govern (record { state = withCore s (statusLoaded (s .core) x y z); pages = g; ports = o }))) (withCore s d) m g o
 unfolding perform
-lst-became lag c t regs m g o x y z h = record { state-is = status-unseen lag (joined c regs) (joined t regs) x y z h; memory-is = refl; pages-is = refl; ports-is = refl }
+lst-became s d m g o x y z h = record { state-is = ap (withCore s) h; memory-is = refl; pages-is = refl; ports-is = refl }

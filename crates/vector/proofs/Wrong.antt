@@ -7,8 +7,6 @@ use lib.ListN.{set, replicate}
 use Rattle.choice.proofs.Rows.{Row, some, hold}
 use Rattle.machine.specs.declared.State.{State}
 use Rattle.machine.proofs.Opened.{machinery}
-use Rattle.machine.proofs.Samples.{stateAt}
-use Rattle.machine.specs.State.{withMk, withPi, withFt, withEnabled, withTa, withTb, withTbOn, withCount}
 use Rattle.report.specs.Report.{digit, hex, leading, decimal}
 use Rattle.packed.specs.Packed.{marks, marked, markAt, marksOf, withMarks, layout, unpacked, packed}
 use Rattle.vector.specs.declared.Line.{Line}
@@ -18,7 +16,12 @@ use Rattle.vector.specs.Fields.{placeOf, withWord}
 use Rattle.vector.specs.Texts.{caseLine, timeLine, entryLine, numberedLine}
 
 abbrev s : State
-s = withCount (withTbOn (withTb (withTa (withEnabled (withFt (withPi (withMk (stateAt (replicate 16 0) 1 2) 3) 4) 5) true) 10) 20) false) 12
+s =
+    record {
+      regs = replicate 16 0;
+      core = record { ic = 1; sw = 2; mk = 3; pi = 4; ft = 5; enabled = true; hold = false };
+      clock = record { ta = 10; tb = 20; taon = true; tbon = false; count = 12 };
+    }
 
 -- opens the definitions of lines at once, and those of the state and of texts
 unfoldable lines : Unit {0}
@@ -44,9 +47,9 @@ rows =
     -- set::put: the word before; the word after
     ∷ some (set (5 ∷ 6 ∷ 7 ∷ []) 1 9) (5 ∷ 9 ∷ 7 ∷ []) (9 ∷ 6 ∷ 7 ∷ []) (5 ∷ 6 ∷ 9 ∷ [])
     -- set::state: PI set by the number of MK; SW set by the number of MK
-    ∷ some (let t = withWord s 18 9 in t .sw ∷ t .mk ∷ t .pi ∷ []) (2 ∷ 9 ∷ 4 ∷ []) (2 ∷ 3 ∷ 9 ∷ []) (9 ∷ 3 ∷ 4 ∷ [])
+    ∷ some (let t = withWord s 18 9 in t .core .sw ∷ t .core .mk ∷ t .core .pi ∷ []) (2 ∷ 9 ∷ 4 ∷ []) (2 ∷ 3 ∷ 9 ∷ []) (9 ∷ 3 ∷ 4 ∷ [])
     -- set::state: the counter's high word set by the number of its low word; the counter left as it was
-    ∷ some (withWord s 25 9 .count ∷ []) (9 ∷ []) (589836 ∷ []) (12 ∷ [])
+    ∷ some (withWord s 25 9 .clock .count ∷ []) (9 ∷ []) (589836 ∷ []) (12 ∷ [])
     -- text::case_line: number and answer exchanged; the newline left out
     ∷ some (caseLine 7 5)
     (99 ∷ 97 ∷ 115 ∷ 101 ∷ 32 ∷ 55 ∷ 32 ∷ 97 ∷ 110 ∷ 115 ∷ 119 ∷ 101 ∷ 114 ∷ 32 ∷ 53 ∷ 10 ∷ [])

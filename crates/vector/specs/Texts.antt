@@ -17,13 +17,13 @@ caseLine n a =
 unfoldable pub timeLine : State → List ℕ
 timeLine s =
     (116 ∷ 97 ∷ 32 ∷ [])
-    ++ (hex (s .ta)
+    ++ (hex (s .clock .ta)
     ++ ((32 ∷ 116 ∷ 98 ∷ 32 ∷ [])
-    ++ (hex (s .tb)
+    ++ (hex (s .clock .tb)
     ++ ((32 ∷ 109 ∷ 97 ∷ 114 ∷ 107 ∷ 115 ∷ 32 ∷ [])
     ++ (hex (marksOf s)
     ++ ((32 ∷ 99 ∷ 111 ∷ 117 ∷ 110 ∷ 116 ∷ 32 ∷ [])
-    ++ (decimal (s .count) ++ (newline ∷ []))))))))
+    ++ (decimal (s .clock .count) ++ (newline ∷ []))))))))
 
 -- an entry: its kind letter, its number, its word
 unfoldable pub entryLine : ℕ → ℕ → ℕ → List ℕ

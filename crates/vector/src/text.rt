@@ -26,13 +26,13 @@ pub fn time_line(s: State, out: &mut [u8; 256]) -> usize
     ensures { λ r. ⌜ Text (now (out .entry)) (timeLine s) (now (out .exit)) r ⌝ }
 {
     let at = put_bytes(out, 0, b"ta ");
-    let at = put_hex(out, at, s.ta);
+    let at = put_hex(out, at, s.clock.ta);
     let at = put_bytes(out, at, b" tb ");
-    let at = put_hex(out, at, s.tb);
+    let at = put_hex(out, at, s.clock.tb);
     let at = put_bytes(out, at, b" marks ");
     let at = put_hex(out, at, marks(s));
     let at = put_bytes(out, at, b" count ");
-    let at = put_decimal(out, at, s.count);
+    let at = put_decimal(out, at, s.clock.count);
     put(out, at, b'\n')
 }
 

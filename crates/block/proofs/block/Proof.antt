@@ -1,4 +1,4 @@
--- Written by tools/prove.py from answers/block.py: answer 872cf9aaf2a8, proof 41cf0ecdf399.
+-- Written by tools/prove.py from answers/block.py: answer 1f56789354db, proof 3431365ebf9a.
 -- `block::block` meets its contract. Assumes nothing.
 use Rattle.block.proofs.block.Statement.{statement}
 use Rattle.block.proofs.block.Tie as tie
@@ -22,7 +22,7 @@ rearrange-requires c κs = (c .before .before .before .before .before .before .b
 
 returns : tie.Need-returns
 unfolding stored contextOf
-returns c = let w = words-read _ _ _ _ _ _ _ _ refl (c .before .before .before .before .before .before .before .before .before .read-span .ensures) in record { state-is = rw (← c .before .before .before .before .before .before .before .before .before .before .before .before .before .key-of .ensures .0, ← c .before .before .before .before .before .before .before .before .before .before .before .before .group-of .ensures .0, ← c .before .before .before .before .before .before .before .before .before .before .before .before .before .before .before .before .pre .2, ← w) (c .rearrange .ensures); memory-is = rw (← c .before .before .before .before .before .before .before .before .before .before .before .before .before .key-of .ensures .0, ← c .before .before .before .before .before .before .before .before .before .before .before .before .group-of .ensures .0, ← c .before .before .before .before .before .before .before .before .before .before .before .before .before .before .before .before .pre .2, ← w) (c .before .before .before .before .before .store-words .ensures (contextOf (joined (c .before .before .before .before .before .before .before .before .before .before .before .before .before .before .before .before .args .core) (c .before .before .before .before .before .before .before .before .before .before .before .before .before .before .before .before .args .regs .now))) refl) }
+returns c = let w = words-read _ _ _ _ _ _ _ _ refl (c .before .before .before .before .before .before .before .before .before .read-span .ensures) in record { processor-is = rw (← c .before .before .before .before .before .before .before .before .before .before .before .before .before .key-of .ensures .0, ← c .before .before .before .before .before .before .before .before .before .before .before .before .group-of .ensures .0, ← c .before .before .before .before .before .before .before .before .before .before .before .before .before .before .before .before .pre .2, ← w) (c .rearrange .ensures); memory-is = rw (← c .before .before .before .before .before .before .before .before .before .before .before .before .before .key-of .ensures .0, ← c .before .before .before .before .before .before .before .before .before .before .before .before .group-of .ensures .0, ← c .before .before .before .before .before .before .before .before .before .before .before .before .before .before .before .before .pre .2, ← w) (c .before .before .before .before .before .store-words .ensures (contextOf (joined (c .before .before .before .before .before .before .before .before .before .before .before .before .before .before .before .before .args .core) (c .before .before .before .before .before .before .before .before .before .before .before .before .before .before .before .before .args .regs .now))) refl) }
 
 pub block-spec : {M : Type 1} → statement M
 block-spec =

@@ -1,4 +1,4 @@
--- Written by tools/prove.py from answers/control.py: answer b1a7c5aa949f, proof cb0958cffb04.
+-- Written by tools/prove.py from answers/control.py: answer 6d92ff894186, proof c140de25a571.
 -- `control::load_status` meets its contract. Assumes nothing.
 use Rattle.control.proofs.load_status.Statement.{statement}
 use Rattle.control.proofs.load_status.Tie as tie
@@ -8,7 +8,7 @@ use mathlib.Core.Path.{refl}
 
 returns : tie.Need-returns
 unfolding statusLoaded withIc withSw withMk
-returns c = λ regs. refl
+returns c = refl
 
 pub load-status-spec : {M : Type 1} → statement M
 load-status-spec = tie.close (tie.spec returns)

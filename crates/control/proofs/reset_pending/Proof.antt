@@ -1,4 +1,4 @@
--- Written by tools/prove.py from answers/control.py: answer 8dfe948e9f4c, proof a0612dee7862.
+-- Written by tools/prove.py from answers/control.py: answer c44a378d386d, proof b0bb683c0039.
 -- `control::reset_pending` meets its contract. Assumes nothing.
 use Rattle.control.proofs.reset_pending.Statement.{statement}
 use Rattle.control.proofs.reset_pending.Tie as tie
@@ -9,11 +9,11 @@ use borrow.Author.Tests.{eq-eqb, ne-eqb}
 
 returns : tie.Need-returns
 unfolding pendingReset withPi withFt
-returns c = λ regs. rw (← c .before .before .reset-bit .ensures, eq-eqb _ _ (c .before .if1 .taken)) (c .set-pending .ensures regs)
+returns c = rw (← c .before .before .reset-bit .ensures, eq-eqb _ _ (c .before .if1 .taken)) (c .set-pending .ensures)
 
 returns-2 : tie.Need-returns-2
 unfolding pendingReset withPi withFt
-returns-2 c = λ regs. rw (← c .before .before .reset-bit .ensures, ne-eqb _ _ (c .before .if1 .left)) (c .set-pending2 .ensures regs)
+returns-2 c = rw (← c .before .before .reset-bit .ensures, ne-eqb _ _ (c .before .if1 .left)) (c .set-pending2 .ensures)
 
 pub reset-pending-spec : {M : Type 1} → statement M
 reset-pending-spec =

@@ -1,4 +1,4 @@
--- Written by tools/prove.py from answers/control.py: answer 76811095def8, proof 53431c2b3fe8.
+-- Written by tools/prove.py from answers/control.py: answer 1ba76084e8a7, proof 0cedf30aad94.
 -- `control::resume` meets its contract. Assumes nothing.
 use Rattle.control.proofs.resume.Statement.{statement}
 use Rattle.control.proofs.resume.Tie as tie
@@ -10,7 +10,7 @@ use mathlib.Core.Path.{refl}
 
 returns : tie.Need-returns
 unfolding resumed withIc advanced nextOf
-returns c = λ regs. rw (← c .following .ensures) refl
+returns c = rw (← c .following .ensures) refl
 
 pub resume-spec : {M : Type 1} → statement M
 resume-spec = tie.close (tie.spec (λ c κs. search needs) returns)

@@ -1,4 +1,4 @@
--- Written by tools/prove.py from answers/control.py: answer 4cc53c5bee53, proof 1bcc3911ea86.
+-- Written by tools/prove.py from answers/control.py: answer 658047469396, proof 9d3d56ca4516.
 -- `control::set_enabled` meets its contract. Assumes nothing.
 use Rattle.control.proofs.set_enabled.Statement.{statement}
 use Rattle.control.proofs.set_enabled.Tie as tie
@@ -7,7 +7,7 @@ use mathlib.Core.Path.{refl}
 
 returns : tie.Need-returns
 unfolding withEnabled withHold
-returns c = λ regs. refl
+returns c = refl
 
 pub set-enabled-spec : {M : Type 1} → statement M
 set-enabled-spec = tie.close (tie.spec returns)

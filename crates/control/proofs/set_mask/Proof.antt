@@ -1,4 +1,4 @@
--- Written by tools/prove.py from answers/control.py: answer c74c0763b644, proof 71c4e04a1018.
+-- Written by tools/prove.py from answers/control.py: answer 6cf0302cc47a, proof fb430f98f680.
 -- `control::set_mask` meets its contract. Assumes nothing.
 use Rattle.control.proofs.set_mask.Statement.{statement}
 use Rattle.control.proofs.set_mask.Tie as tie
@@ -7,7 +7,7 @@ use mathlib.Core.Path.{refl}
 
 returns : tie.Need-returns
 unfolding withMk
-returns c = λ regs. refl
+returns c = refl
 
 pub set-mask-spec : {M : Type 1} → statement M
 set-mask-spec = tie.close (tie.spec returns)

@@ -1,4 +1,4 @@
--- Written by tools/prove.py from answers/entry.py: answer a531c204ff5c, proof d66d374338e8.
+-- Written by tools/prove.py from answers/entry.py: answer d27f60d36922, proof b0c859bcbfd9.
 -- `entry::arrive` meets its contract. Assumes nothing.
 use Rattle.entry.proofs.arrive.Statement.{statement}
 use Rattle.entry.proofs.arrive.Tie as tie
@@ -9,7 +9,7 @@ use mathlib.Core.Path.{refl}
 
 returns : tie.Need-returns
 unfolding arrived withIc withSw withMk withPi withFt withEnabled
-returns c = λ regs. rw (← c .before .before .reset-bit .ensures, ← c .before .machine-error .ensures) refl
+returns c = rw (← c .before .before .reset-bit .ensures, ← c .before .machine-error .ensures) refl
 
 pub arrive-spec : {M : Type 1} → statement M
 arrive-spec = tie.close (tie.spec (λ c κs. search needs) (λ c κs. search needs) returns)

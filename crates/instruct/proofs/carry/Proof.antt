@@ -1,4 +1,4 @@
--- Written by tools/prove.py from answers/instruct.py: answer f3c2460b1028, proof 31a610c2dd33.
+-- Written by tools/prove.py from answers/instruct.py: answer 6c5360eb759f, proof c73d138c8df4.
 -- `instruct::carry` meets its contract. Assumes nothing.
 use Rattle.instruct.proofs.UserLaws.{on-block, off-block}
 use Rattle.instruct.proofs.carry.Statement.{statement}
@@ -9,40 +9,40 @@ use mathlib.Core.Path.{refl, _∙_}
 use native.Mathlib.Omega.{arith}
 
 carry-direct-requires : tie.Need-carry-direct-requires
-carry-direct-requires c κs = (c .before .before .before .before .before .before .before .pre .0, c .before .before .before .before .before .before .before .pre .2, c .before .before .before .before .before .before .before .pre .3, c .before .before .before .before .before .before .before .pre .4, c .before .before .before .before .before .before .before .pre .6, number-least (c .before .before .before .before .before .before .before .args .n .form) (c .before .before .before .before .before .before .before .args .number) (c .before .before .before .before .before .before .before .pre .6) (search needs), omega arith)
+carry-direct-requires c κs = (c .before .before .before .before .before .before .before .pre .0, c .before .before .before .before .before .before .before .pre .2, c .before .before .before .before .before .before .before .pre .3, c .before .before .before .before .before .before .before .pre .4, c .before .before .before .before .before .before .before .pre .5, number-least (c .before .before .before .before .before .before .before .args .n .form) (c .before .before .before .before .before .before .before .args .number) (c .before .before .before .before .before .before .before .pre .5) (search needs), omega arith)
 
 command-requires : tie.Need-command-requires
-command-requires c κs = (c .before .before .before .before .before .before .before .before .pre .0, c .before .before .before .before .before .before .before .before .pre .1, c .before .before .before .before .before .before .before .before .pre .5, (number-way (c .before .before .before .before .before .before .before .before .args .n .form) (c .before .before .before .before .before .before .before .before .args .number) (c .before .before .before .before .before .before .before .before .pre .6) (search needs) (omega arith) ∙ omega arith))
+command-requires c κs = (c .before .before .before .before .before .before .before .before .pre .0, c .before .before .before .before .before .before .before .before .pre .1, (number-way (c .before .before .before .before .before .before .before .before .args .n .form) (c .before .before .before .before .before .before .before .before .args .number) (c .before .before .before .before .before .before .before .before .pre .5) (search needs) (omega arith) ∙ omega arith))
 
 executive-requires : tie.Need-executive-requires
-executive-requires c κs = (c .before .before .before .before .before .before .before .before .pre .0, (number-way (c .before .before .before .before .before .before .before .before .args .n .form) (c .before .before .before .before .before .before .before .before .args .number) (c .before .before .before .before .before .before .before .before .pre .6) (search needs) (omega arith) ∙ omega arith))
+executive-requires c κs = (c .before .before .before .before .before .before .before .before .pre .0, (number-way (c .before .before .before .before .before .before .before .before .args .n .form) (c .before .before .before .before .before .before .before .before .args .number) (c .before .before .before .before .before .before .before .before .pre .5) (search needs) (omega arith) ∙ omega arith))
 
 load-requires : tie.Need-load-requires
-load-requires c κs = (c .before .before .before .before .before .before .before .before .before .before .pre .0, c .before .before .before .before .before .before .before .before .before .before .pre .2, c .before .before .before .before .before .before .before .before .before .before .pre .3, c .before .before .before .before .before .before .before .before .before .before .pre .4, (number-way (c .before .before .before .before .before .before .before .before .before .before .args .n .form) (c .before .before .before .before .before .before .before .before .before .before .args .number) (c .before .before .before .before .before .before .before .before .before .before .pre .6) (search needs) (omega arith) ∙ omega arith), c .before .before .before .before .before .before .before .before .before .before .pre .6)
+load-requires c κs = (c .before .before .before .before .before .before .before .before .before .before .pre .0, c .before .before .before .before .before .before .before .before .before .before .pre .2, c .before .before .before .before .before .before .before .before .before .before .pre .3, c .before .before .before .before .before .before .before .before .before .before .pre .4, (number-way (c .before .before .before .before .before .before .before .before .before .before .args .n .form) (c .before .before .before .before .before .before .before .before .before .before .args .number) (c .before .before .before .before .before .before .before .before .before .before .pre .5) (search needs) (omega arith) ∙ omega arith), c .before .before .before .before .before .before .before .before .before .before .pre .5)
 
 carry-block-requires : tie.Need-carry-block-requires
-carry-block-requires c κs = (c .before .before .before .before .before .before .before .before .before .before .before .pre .0, on-block (c .before .before .before .before .before .before .before .before .before .before .before .args .n .form) _ refl (number-block (c .before .before .before .before .before .before .before .before .before .before .before .args .n .form) (c .before .before .before .before .before .before .before .before .before .before .before .args .number) (c .before .before .before .before .before .before .before .before .before .before .before .pre .6) (search needs) (omega arith) (omega arith)), c .before .before .before .before .before .before .before .before .before .before .before .pre .2, c .before .before .before .before .before .before .before .before .before .before .before .pre .3, c .before .before .before .before .before .before .before .before .before .before .before .pre .4)
+carry-block-requires c κs = (c .before .before .before .before .before .before .before .before .before .before .before .pre .0, on-block (c .before .before .before .before .before .before .before .before .before .before .before .args .n .form) _ refl (number-block (c .before .before .before .before .before .before .before .before .before .before .before .args .n .form) (c .before .before .before .before .before .before .before .before .before .before .before .args .number) (c .before .before .before .before .before .before .before .before .before .before .before .pre .5) (search needs) (omega arith) (omega arith)), c .before .before .before .before .before .before .before .before .before .before .before .pre .2, c .before .before .before .before .before .before .before .before .before .before .before .pre .3, c .before .before .before .before .before .before .before .before .before .before .before .pre .4)
 
 carry-ordinary-requires : tie.Need-carry-ordinary-requires
-carry-ordinary-requires c κs = (c .before .before .before .before .before .before .before .before .before .before .before .pre .0, c .before .before .before .before .before .before .before .before .before .before .before .pre .2, c .before .before .before .before .before .before .before .before .before .before .before .pre .3, c .before .before .before .before .before .before .before .before .before .before .before .pre .4, c .before .before .before .before .before .before .before .before .before .before .before .pre .6, off-block (c .before .before .before .before .before .before .before .before .before .before .before .args .n .form) _ refl (λ z. let y = (number-rest (c .before .before .before .before .before .before .before .before .before .before .before .args .n .form) (c .before .before .before .before .before .before .before .before .before .before .before .args .number) (c .before .before .before .before .before .before .before .before .before .before .before .pre .6) (search needs) (omega arith)) .1 in omega (arith, y, z)), (number-rest (c .before .before .before .before .before .before .before .before .before .before .before .args .n .form) (c .before .before .before .before .before .before .before .before .before .before .before .args .number) (c .before .before .before .before .before .before .before .before .before .before .before .pre .6) (search needs) (omega arith)) .0)
+carry-ordinary-requires c κs = (c .before .before .before .before .before .before .before .before .before .before .before .pre .0, c .before .before .before .before .before .before .before .before .before .before .before .pre .2, c .before .before .before .before .before .before .before .before .before .before .before .pre .3, c .before .before .before .before .before .before .before .before .before .before .before .pre .4, c .before .before .before .before .before .before .before .before .before .before .before .pre .5, off-block (c .before .before .before .before .before .before .before .before .before .before .before .args .n .form) _ refl (λ z. let y = (number-rest (c .before .before .before .before .before .before .before .before .before .before .before .args .n .form) (c .before .before .before .before .before .before .before .before .before .before .before .args .number) (c .before .before .before .before .before .before .before .before .before .before .before .pre .5) (search needs) (omega arith)) .1 in omega (arith, y, z)), (number-rest (c .before .before .before .before .before .before .before .before .before .before .before .args .n .form) (c .before .before .before .before .before .before .before .before .before .before .before .args .number) (c .before .before .before .before .before .before .before .before .before .before .before .pre .5) (search needs) (omega arith)) .0)
 
 returns : tie.Need-returns
-returns c = (c .before .before .carry-direct .ensures .0 (c .before .before .before .before .before .before .before .before .before .before .args .lag) (c .before .before .before .before .before .before .before .before .before .before .args .ports .now), c .before .before .carry-direct .ensures .1)
+returns c = c .before .before .carry-direct .ensures (c .before .before .before .before .before .before .before .before .before .before .args .ports .now)
 
 returns-2 : tie.Need-returns-2
-returns-2 c = (c .before .before .before .before .command .ensures .0 (c .before .before .before .before .before .before .before .before .before .before .before .before .before .args .memory .now), c .before .before .before .before .command .ensures .1)
+returns-2 c = c .before .before .before .before .command .ensures (c .before .before .before .before .before .before .before .before .before .before .before .before .before .args .memory .now)
 
 returns-3 : tie.Need-returns-3
-returns-3 c = (c .before .before .executive .ensures .0 (c .before .before .before .before .before .before .before .before .before .before .before .args .lag) (c .before .before .before .before .before .before .before .before .before .before .before .args .regs .now) (c .before .before .before .before .before .before .before .before .before .before .before .args .ports .now), c .before .before .executive .ensures .1)
+returns-3 c = c .before .before .executive .ensures (c .before .before .before .before .before .before .before .before .before .before .before .args .regs .now) (c .before .before .before .before .before .before .before .before .before .before .before .args .ports .now)
 
 returns-4 : tie.Need-returns-4
-returns-4 c = (c .load .ensures .0 (c .before .before .before .before .before .before .before .before .before .before .before .args .lag) (c .before .before .before .before .before .before .before .before .before .before .before .args .ports .now), c .load .ensures .1)
+returns-4 c = c .load .ensures (c .before .before .before .before .before .before .before .before .before .before .before .args .ports .now)
 
 returns-5 : tie.Need-returns-5
-returns-5 c = (c .before .before .carry-block .ensures .0 (c .before .before .before .before .before .before .before .before .before .before .before .before .before .before .args .lag) (c .before .before .before .before .before .before .before .before .before .before .before .before .before .before .args .ports .now), c .before .before .carry-block .ensures .1)
+returns-5 c = c .before .before .carry-block .ensures (c .before .before .before .before .before .before .before .before .before .before .before .before .before .before .args .ports .now)
 
 returns-6 : tie.Need-returns-6
-returns-6 c = (c .before .before .carry-ordinary .ensures .0 (c .before .before .before .before .before .before .before .before .before .before .before .before .before .before .args .lag) (c .before .before .before .before .before .before .before .before .before .before .before .before .before .before .args .ports .now), c .before .before .carry-ordinary .ensures .1)
+returns-6 c = c .before .before .carry-ordinary .ensures (c .before .before .before .before .before .before .before .before .before .before .before .before .before .before .args .ports .now)
 
 pub carry-spec : {M : Type 1} → statement M
 carry-spec =

@@ -1,13 +1,13 @@
--- Written by tools/prove.py from answers/instruct.py: answer eac8d4f2d543, proof b693efdd3f9a.
+-- Written by tools/prove.py from answers/instruct.py: answer 6e8ac935c4cd, proof e3f8c2c3123c.
 -- `instruct::carry_block` meets its contract. Assumes nothing.
-use Rattle.clock.specs.Later.{later}
 use Rattle.instruct.proofs.UserLaws.{became-worked, block-user, settled-by}
 use Rattle.instruct.proofs.carry_block.Statement.{statement}
 use Rattle.instruct.proofs.carry_block.Tie as tie
 use Rattle.isa.specs.Mil1750.{mil1750, contextOf}
 use Rattle.machine.specs.Instructions.{operated}
-use Rattle.machine.specs.State.{joined}
+use Rattle.machine.specs.State.{joined, withProcessor}
 use Rattle.moved.proofs.ActLaws.{carried-clear}
+use Rattle.moved.proofs.MovedLaws.{timer-none}
 use Rattle.one_page.proofs.HereLaws.{attempt-done, attempt-left}
 use borrow.Author.Needs.{needs}
 use mathlib.Core.Path.{refl}
@@ -17,7 +17,7 @@ try-block-requires c κs = (c .before .before .before .before .pre .0, c .before
 
 returns : tie.Need-returns
 unfolding operated mil1750 contextOf
-returns c = (λ lag ports. rw (← carried-clear (later lag (joined (c .before .before .before .before .before .before .before .before .before .args .core) (c .before .before .before .before .before .before .before .before .before .args .regs .now))) (c .before .before .before .before .before .before .before .before .before .args .memory .now) (c .before .before .before .before .before .before .before .before .before .args .pages .now) ports (c .before .before .before .before .before .before .before .before .before .args .n) _ _ _ refl refl refl (attempt-done (joined (c .before .before .before .before .before .before .before .before .before .args .core) (c .before .before .before .before .before .before .before .before .before .args .regs .now)) (c .before .before .before .before .before .before .before .before .before .args .memory .now) (c .before .before .before .before .before .before .before .before .before .args .pages .now) (c .before .before .before .before .before .before .before .before .before .args .n) _ _ _ (c .before .if1 .taken) (c .before .before .before .before .try-block .ensures) .admitted), block-user _ (c .before .before .before .before .before .before .before .before .before .pre .1)) (became-worked lag (joined (c .before .before .before .before .before .before .before .before .before .args .core) (c .before .before .before .before .before .before .before .before .before .args .regs .now)) (c .before .before .before .before .before .before .before .before .before .args .memory .now) (c .before .before .before .before .before .before .before .before .before .args .pages .now) ports (c .before .before .before .before .before .before .before .before .before .args .n) _ _ _ _ (attempt-done (joined (c .before .before .before .before .before .before .before .before .before .args .core) (c .before .before .before .before .before .before .before .before .before .args .regs .now)) (c .before .before .before .before .before .before .before .before .before .args .memory .now) (c .before .before .before .before .before .before .before .before .before .args .pages .now) (c .before .before .before .before .before .before .before .before .before .args .n) _ _ _ (c .before .if1 .taken) (c .before .before .before .before .try-block .ensures) .worked) (c .weighed .ensures .3 _ _)), settled-by (c .before .before .before .before .before .before .before .before .before .args .core) _ _ (c .before .before .before .before .before .before .before .before .before .args .regs .now) _ _ (c .weighed .ensures .1) (c .weighed .ensures .2) (c .weighed .ensures .0) (attempt-done (joined (c .before .before .before .before .before .before .before .before .before .args .core) (c .before .before .before .before .before .before .before .before .before .args .regs .now)) (c .before .before .before .before .before .before .before .before .before .args .memory .now) (c .before .before .before .before .before .before .before .before .before .args .pages .now) (c .before .before .before .before .before .before .before .before .before .args .n) _ _ _ (c .before .if1 .taken) (c .before .before .before .before .try-block .ensures) .worked .state-is))
+returns c = λ ports. (λ s. rw (c .weighed .ensures, timer-none _ _, ← carried-clear (withProcessor s (joined (c .before .before .before .before .before .before .before .before .before .args .core) (c .before .before .before .before .before .before .before .before .before .args .regs .now))) (c .before .before .before .before .before .before .before .before .before .args .memory .now) (c .before .before .before .before .before .before .before .before .before .args .pages .now) ports (c .before .before .before .before .before .before .before .before .before .args .n) _ _ _ refl refl refl (attempt-done (joined (c .before .before .before .before .before .before .before .before .before .args .core) (c .before .before .before .before .before .before .before .before .before .args .regs .now)) (c .before .before .before .before .before .before .before .before .before .args .memory .now) (c .before .before .before .before .before .before .before .before .before .args .pages .now) (c .before .before .before .before .before .before .before .before .before .args .n) _ _ _ (c .before .if1 .taken) (c .before .before .before .before .try-block .ensures) .admitted), block-user _ (c .before .before .before .before .before .before .before .before .before .pre .1)) (became-worked (withProcessor s (joined (c .before .before .before .before .before .before .before .before .before .args .core) (c .before .before .before .before .before .before .before .before .before .args .regs .now))) (c .before .before .before .before .before .before .before .before .before .args .memory .now) (c .before .before .before .before .before .before .before .before .before .args .pages .now) ports (c .before .before .before .before .before .before .before .before .before .args .n) _ _ _ (attempt-done (joined (c .before .before .before .before .before .before .before .before .before .args .core) (c .before .before .before .before .before .before .before .before .before .args .regs .now)) (c .before .before .before .before .before .before .before .before .before .args .memory .now) (c .before .before .before .before .before .before .before .before .before .args .pages .now) (c .before .before .before .before .before .before .before .before .before .args .n) _ _ _ (c .before .if1 .taken) (c .before .before .before .before .try-block .ensures) .worked)), settled-by (c .before .before .before .before .before .before .before .before .before .args .core) _ _ (c .before .before .before .before .before .before .before .before .before .args .regs .now) _ _ (c .weighed .ensures) (attempt-done (joined (c .before .before .before .before .before .before .before .before .before .args .core) (c .before .before .before .before .before .before .before .before .before .args .regs .now)) (c .before .before .before .before .before .before .before .before .before .args .memory .now) (c .before .before .before .before .before .before .before .before .before .args .pages .now) (c .before .before .before .before .before .before .before .before .before .args .n) _ _ _ (c .before .if1 .taken) (c .before .before .before .before .try-block .ensures) .worked .processor-is))
 
 carry-words-requires : tie.Need-carry-words-requires
 carry-words-requires c κs = (c .before .before .before .before .before .before .before .before .before .before .pre .0, c .before .before .before .before .before .before .before .before .before .before .pre .1)

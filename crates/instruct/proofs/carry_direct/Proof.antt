@@ -1,26 +1,26 @@
--- Written by tools/prove.py from answers/instruct.py: answer 4a4fae1c2b3c, proof a55deeac326d.
+-- Written by tools/prove.py from answers/instruct.py: answer d7945e6f8032, proof d56a7619abe2.
 -- `instruct::carry_direct` meets its contract. Assumes nothing.
-use Rattle.clock.specs.Later.{later}
 use Rattle.instruct.proofs.UserLaws.{became-worked, settled-by}
 use Rattle.instruct.proofs.carry_direct.Statement.{statement}
 use Rattle.instruct.proofs.carry_direct.Tie as tie
 use Rattle.isa.specs.Mil1750.{mil1750, contextOf}
 use Rattle.machine.specs.Instructions.{operated}
-use Rattle.machine.specs.State.{joined}
+use Rattle.machine.specs.State.{joined, withProcessor}
 use Rattle.moved.proofs.ActLaws.{carried-clear, carried-fault, failed}
+use Rattle.moved.proofs.MovedLaws.{timer-none, unsettled-lasting}
 use borrow.Author.Needs.{needs}
-use mathlib.Core.Path.{refl, ap, _∙_}
+use mathlib.Core.Path.{refl, ap}
 
 direct-requires : tie.Need-direct-requires
 direct-requires c κs = (c .before .before .before .before .pre .0, c .before .before .before .before .pre .1, c .before .before .before .before .pre .2, c .before .before .before .before .pre .3, c .before .before .before .before .pre .4, c .before .before .before .before .pre .5, c .before .before .before .before .pre .6)
 
 returns : tie.Need-returns
 unfolding operated mil1750 contextOf
-returns c = (λ lag ports. rw (← carried-clear (later lag (joined (c .before .before .before .before .before .before .before .before .before .args .core) (c .before .before .before .before .before .before .before .before .before .args .regs .now))) (c .before .before .before .before .before .before .before .before .before .args .memory .now) (c .before .before .before .before .before .before .before .before .before .args .pages .now) ports (c .before .before .before .before .before .before .before .before .before .args .n) _ _ _ refl refl refl (c .before .before .before .before .direct .ensures .when-clear (c .before .if1 .taken) .admitted), c .before .before .before .before .direct .ensures .by-user) (became-worked lag (joined (c .before .before .before .before .before .before .before .before .before .args .core) (c .before .before .before .before .before .before .before .before .before .args .regs .now)) (c .before .before .before .before .before .before .before .before .before .args .memory .now) (c .before .before .before .before .before .before .before .before .before .args .pages .now) ports (c .before .before .before .before .before .before .before .before .before .args .n) _ _ _ _ (c .before .before .before .before .direct .ensures .when-clear (c .before .if1 .taken) .worked) (c .weighed .ensures .3 _ _)), settled-by (c .before .before .before .before .before .before .before .before .before .args .core) _ _ (c .before .before .before .before .before .before .before .before .before .args .regs .now) _ _ (c .weighed .ensures .1) (c .weighed .ensures .2) (c .weighed .ensures .0) (c .before .before .before .before .direct .ensures .when-clear (c .before .if1 .taken) .worked .state-is))
+returns c = λ ports. (λ s. rw (c .weighed .ensures, timer-none _ _, ← carried-clear (withProcessor s (joined (c .before .before .before .before .before .before .before .before .before .args .core) (c .before .before .before .before .before .before .before .before .before .args .regs .now))) (c .before .before .before .before .before .before .before .before .before .args .memory .now) (c .before .before .before .before .before .before .before .before .before .args .pages .now) ports (c .before .before .before .before .before .before .before .before .before .args .n) _ _ _ refl refl refl (c .before .before .before .before .direct .ensures .when-clear (c .before .if1 .taken) .admitted), c .before .before .before .before .direct .ensures .by-user) (became-worked (withProcessor s (joined (c .before .before .before .before .before .before .before .before .before .args .core) (c .before .before .before .before .before .before .before .before .before .args .regs .now))) (c .before .before .before .before .before .before .before .before .before .args .memory .now) (c .before .before .before .before .before .before .before .before .before .args .pages .now) ports (c .before .before .before .before .before .before .before .before .before .args .n) _ _ _ (c .before .before .before .before .direct .ensures .when-clear (c .before .if1 .taken) .worked)), settled-by (c .before .before .before .before .before .before .before .before .before .args .core) _ _ (c .before .before .before .before .before .before .before .before .before .args .regs .now) _ _ (c .weighed .ensures) (c .before .before .before .before .direct .ensures .when-clear (c .before .if1 .taken) .worked .processor-is))
 
 returns-2 : tie.Need-returns-2
 unfolding operated mil1750 contextOf
-returns-2 c = let k = c .before .before .before .before .before .before .direct .ensures .when-refused (c .before .before .before .if1 .left) in (λ lag ports. rw (c .deny .ensures .0, ← carried-fault (later lag (joined (c .before .before .before .before .before .before .before .before .before .before .before .args .core) (c .before .before .before .before .before .before .before .before .before .before .before .args .regs .now))) (c .before .before .before .before .before .before .before .before .before .before .before .args .memory .now) (c .before .before .before .before .before .before .before .before .before .before .before .args .pages .now) ports (c .before .before .before .before .before .before .before .before .before .before .before .args .n) _ _ _ refl refl refl _ (k .0), ← c .before .advance .ensures) (failed (later lag (joined (c .before .before .before .before .before .before .before .before .before .before .before .args .core) (c .before .before .before .before .before .before .before .before .before .before .before .args .regs .now))) _ (c .before .before .before .before .before .before .before .before .before .before .before .args .memory .now) _ (c .before .before .before .before .before .before .before .before .before .before .before .args .pages .now) ports _ _ (k .2) (ap (λ r. later lag (joined (c .deny .result .core) (r .regs))) (k .1) ∙ c .deny .ensures .1 lag (c .before .before .before .before .before .before .before .before .before .before .before .args .regs .now))), c .deny .ensures .2)
+returns-2 c = let k = c .before .before .before .before .before .before .direct .ensures .when-refused (c .before .before .before .if1 .left) in λ ports. (λ s. rw (c .deny .ensures, timer-none _ _, ← carried-fault (withProcessor s (joined (c .before .before .before .before .before .before .before .before .before .before .before .args .core) (c .before .before .before .before .before .before .before .before .before .before .before .args .regs .now))) (c .before .before .before .before .before .before .before .before .before .before .before .args .memory .now) (c .before .before .before .before .before .before .before .before .before .before .before .args .pages .now) ports (c .before .before .before .before .before .before .before .before .before .before .before .args .n) _ _ _ refl refl refl _ (k .0), ← c .before .advance .ensures, ap (λ p. p .regs) (k .1)) (failed (withProcessor s (joined (c .before .before .before .before .before .before .before .before .before .before .before .args .core) (c .before .before .before .before .before .before .before .before .before .before .before .args .regs .now))) _ (c .before .before .before .before .before .before .before .before .before .before .before .args .memory .now) _ (c .before .before .before .before .before .before .before .before .before .before .before .args .pages .now) ports _ _ (k .2) refl), rw (c .deny .ensures) (unsettled-lasting _ _ refl))
 
 pub carry-direct-spec : {M : Type 1} → statement M
 carry-direct-spec =

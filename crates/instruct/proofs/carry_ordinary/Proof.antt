@@ -1,11 +1,11 @@
--- Written by tools/prove.py from answers/instruct.py: answer 58e5e2ac861e, proof 14049e0d970a.
+-- Written by tools/prove.py from answers/instruct.py: answer 64d518c60052, proof 7fc749d806f3.
 -- `instruct::carry_ordinary` meets its contract. Assumes nothing.
-use Rattle.clock.specs.Later.{later}
 use Rattle.instruct.proofs.UserLaws.{reads-by}
 use Rattle.instruct.proofs.carry_ordinary.Statement.{statement}
 use Rattle.instruct.proofs.carry_ordinary.Tie as tie
-use Rattle.machine.specs.State.{joined}
+use Rattle.machine.specs.State.{resetState, joined, withProcessor}
 use Rattle.moved.proofs.ActLaws.{words-read, carried-read, carried-denied, failed}
+use Rattle.moved.proofs.MovedLaws.{timer-none, unsettled-lasting}
 use borrow.Author.Needs.{needs}
 use mathlib.Core.Path.{refl}
 
@@ -19,13 +19,13 @@ gather-requires : tie.Need-gather-requires
 gather-requires c κs = (c .before .before .before .before .before .before .pre .0, c .before .before .before .before .before .before .pre .3, c .read-count .ensures .1)
 
 proceed-requires : tie.Need-proceed-requires
-proceed-requires c κs = (c .before .before .before .before .before .before .before .before .before .before .pre .0, c .before .before .before .before .before .before .before .before .before .before .pre .5, words-read (later 0 (joined (c .before .before .before .before .before .before .before .before .before .before .args .core) (c .before .before .before .before .before .before .before .before .before .before .args .regs .now))) (c .before .before .before .before .before .before .before .before .before .before .args .memory .now) (c .before .before .before .before .before .before .before .before .before .before .args .pages .now) (c .before .before .before .before .before .before .before .before .before .before .args .n) _ _ (c .before .before .before .before .before .before .before .before .before .before .pre .1) (c .before .before .before .before .before .before .before .before .before .before .pre .2) _ _ _ (reads-by (c .before .before .before .before .before .before .before .before .before .before .args .regs .now) (c .before .before .before .before .before .before .before .before .before .before .args .n) _ _ _ refl (c .before .before .before .before .before .before .before .before .before .before .pre .5) (c .before .before .before .before .before .before .read-start .ensures) (c .before .before .before .before .read-count .ensures .0)) (c .before .before .before .gather .ensures) (c .before .before .if1 .taken), c .before .before .before .before .before .before .before .before .before .before .pre .1, c .before .before .before .before .before .before .before .before .before .before .pre .2, c .before .before .before .before .before .before .before .before .before .before .pre .3, c .before .before .before .before .before .before .before .before .before .before .pre .4, c .before .before .before .before .before .before .before .before .before .before .pre .6)
+proceed-requires c κs = let s = resetState in (c .before .before .before .before .before .before .before .before .before .before .pre .0, c .before .before .before .before .before .before .before .before .before .before .pre .5, words-read (withProcessor s (joined (c .before .before .before .before .before .before .before .before .before .before .args .core) (c .before .before .before .before .before .before .before .before .before .before .args .regs .now))) (c .before .before .before .before .before .before .before .before .before .before .args .memory .now) (c .before .before .before .before .before .before .before .before .before .before .args .pages .now) (c .before .before .before .before .before .before .before .before .before .before .args .n) _ _ (c .before .before .before .before .before .before .before .before .before .before .pre .1) (c .before .before .before .before .before .before .before .before .before .before .pre .2) _ _ _ (reads-by (c .before .before .before .before .before .before .before .before .before .before .args .regs .now) (c .before .before .before .before .before .before .before .before .before .before .args .n) _ _ _ refl (c .before .before .before .before .before .before .before .before .before .before .pre .5) (c .before .before .before .before .before .before .read-start .ensures) (c .before .before .before .before .read-count .ensures .0)) (c .before .before .before .gather .ensures) (c .before .before .if1 .taken), c .before .before .before .before .before .before .before .before .before .before .pre .1, c .before .before .before .before .before .before .before .before .before .before .pre .2, c .before .before .before .before .before .before .before .before .before .before .pre .3, c .before .before .before .before .before .before .before .before .before .before .pre .4, c .before .before .before .before .before .before .before .before .before .before .pre .6)
 
 returns : tie.Need-returns
-returns c = (λ lag ports. rw (← carried-read (later lag (joined (c .before .before .before .before .before .before .before .before .before .before .before .before .before .args .core) (c .before .before .before .before .before .before .before .before .before .before .before .before .before .args .regs .now))) (c .before .before .before .before .before .before .before .before .before .before .before .before .before .args .memory .now) (c .before .before .before .before .before .before .before .before .before .before .before .before .before .args .pages .now) (c .before .before .before .before .before .before .before .before .before .before .before .before .before .args .n) _ _ (c .before .before .before .before .before .before .before .before .before .before .before .before .before .pre .1) (c .before .before .before .before .before .before .before .before .before .before .before .before .before .pre .2) _ _ _ (reads-by (c .before .before .before .before .before .before .before .before .before .before .before .before .before .args .regs .now) (c .before .before .before .before .before .before .before .before .before .before .before .before .before .args .n) _ _ _ refl (c .before .before .before .before .before .before .before .before .before .before .before .before .before .pre .5) (c .before .before .before .before .before .before .before .before .before .read-start .ensures) (c .before .before .before .before .before .before .before .read-count .ensures .0)) (c .before .before .before .before .before .before .gather .ensures) ports (c .before .before .before .before .before .if1 .taken)) (c .before .before .proceed .ensures .0 lag ports), c .before .before .proceed .ensures .1)
+returns c = λ ports. (λ s. rw (← carried-read (withProcessor s (joined (c .before .before .before .before .before .before .before .before .before .before .before .before .before .args .core) (c .before .before .before .before .before .before .before .before .before .before .before .before .before .args .regs .now))) (c .before .before .before .before .before .before .before .before .before .before .before .before .before .args .memory .now) (c .before .before .before .before .before .before .before .before .before .before .before .before .before .args .pages .now) (c .before .before .before .before .before .before .before .before .before .before .before .before .before .args .n) _ _ (c .before .before .before .before .before .before .before .before .before .before .before .before .before .pre .1) (c .before .before .before .before .before .before .before .before .before .before .before .before .before .pre .2) _ _ _ (reads-by (c .before .before .before .before .before .before .before .before .before .before .before .before .before .args .regs .now) (c .before .before .before .before .before .before .before .before .before .before .before .before .before .args .n) _ _ _ refl (c .before .before .before .before .before .before .before .before .before .before .before .before .before .pre .5) (c .before .before .before .before .before .before .before .before .before .read-start .ensures) (c .before .before .before .before .before .before .before .read-count .ensures .0)) (c .before .before .before .before .before .before .gather .ensures) ports (c .before .before .before .before .before .if1 .taken)) (c .before .before .proceed .ensures ports .0 s), c .before .before .proceed .ensures ports .1)
 
 returns-2 : tie.Need-returns-2
-returns-2 c = (λ lag ports. rw (c .deny .ensures .0, ← carried-denied (later lag (joined (c .before .before .before .before .before .before .before .before .before .before .before .args .core) (c .before .before .before .before .before .before .before .before .before .before .before .args .regs .now))) (c .before .before .before .before .before .before .before .before .before .before .before .args .memory .now) (c .before .before .before .before .before .before .before .before .before .before .before .args .pages .now) (c .before .before .before .before .before .before .before .before .before .before .before .args .n) _ _ (c .before .before .before .before .before .before .before .before .before .before .before .pre .1) (c .before .before .before .before .before .before .before .before .before .before .before .pre .2) _ _ _ (reads-by (c .before .before .before .before .before .before .before .before .before .before .before .args .regs .now) (c .before .before .before .before .before .before .before .before .before .before .before .args .n) _ _ _ refl (c .before .before .before .before .before .before .before .before .before .before .before .pre .5) (c .before .before .before .before .before .before .before .read-start .ensures) (c .before .before .before .before .before .read-count .ensures .0)) (c .before .before .before .before .gather .ensures) ports (c .before .before .before .if1 .left), ← c .before .advance .ensures) (failed (later lag (joined (c .before .before .before .before .before .before .before .before .before .before .before .args .core) (c .before .before .before .before .before .before .before .before .before .before .before .args .regs .now))) _ (c .before .before .before .before .before .before .before .before .before .before .before .args .memory .now) _ (c .before .before .before .before .before .before .before .before .before .before .before .args .pages .now) ports _ _ (refl) (c .deny .ensures .1 lag (c .before .before .before .before .before .before .before .before .before .before .before .args .regs .now))), c .deny .ensures .2)
+returns-2 c = λ ports. (λ s. rw (c .deny .ensures, timer-none _ _, ← carried-denied (withProcessor s (joined (c .before .before .before .before .before .before .before .before .before .before .before .args .core) (c .before .before .before .before .before .before .before .before .before .before .before .args .regs .now))) (c .before .before .before .before .before .before .before .before .before .before .before .args .memory .now) (c .before .before .before .before .before .before .before .before .before .before .before .args .pages .now) (c .before .before .before .before .before .before .before .before .before .before .before .args .n) _ _ (c .before .before .before .before .before .before .before .before .before .before .before .pre .1) (c .before .before .before .before .before .before .before .before .before .before .before .pre .2) _ _ _ (reads-by (c .before .before .before .before .before .before .before .before .before .before .before .args .regs .now) (c .before .before .before .before .before .before .before .before .before .before .before .args .n) _ _ _ refl (c .before .before .before .before .before .before .before .before .before .before .before .pre .5) (c .before .before .before .before .before .before .before .read-start .ensures) (c .before .before .before .before .before .read-count .ensures .0)) (c .before .before .before .before .gather .ensures) ports (c .before .before .before .if1 .left), ← c .before .advance .ensures) (failed (withProcessor s (joined (c .before .before .before .before .before .before .before .before .before .before .before .args .core) (c .before .before .before .before .before .before .before .before .before .before .before .args .regs .now))) _ (c .before .before .before .before .before .before .before .before .before .before .before .args .memory .now) _ (c .before .before .before .before .before .before .before .before .before .before .before .args .pages .now) ports _ _ (refl) refl), rw (c .deny .ensures) (unsettled-lasting _ _ refl))
 
 pub carry-ordinary-spec : {M : Type 1} → statement M
 carry-ordinary-spec =

@@ -1,12 +1,12 @@
--- Written by tools/prove.py from answers/instruct.py: answer 8704be0a7299, proof e98223c4cbf6.
+-- Written by tools/prove.py from answers/instruct.py: answer e125dcb676eb, proof 1064ba451837.
 -- `instruct::instruct` meets its contract. Assumes nothing.
-use Rattle.clock.specs.Later.{later}
-use Rattle.instruct.proofs.UserLaws.{prepared-later, prepared-at, prepared-refused}
+use Rattle.instruct.proofs.UserLaws.{prepared-at, prepared-refused}
 use Rattle.instruct.proofs.instruct.Statement.{statement}
 use Rattle.instruct.proofs.instruct.Tie as tie
-use Rattle.machine.specs.Instructions.{view, instructed, carried}
-use Rattle.machine.specs.State.{joined}
+use Rattle.machine.specs.Instructions.{instructed, carried}
+use Rattle.machine.specs.State.{joined, withProcessor}
 use Rattle.moved.proofs.ActLaws.{failed}
+use Rattle.moved.proofs.MovedLaws.{timer-none, unsettled-lasting}
 use Rattle.page.proofs.ReachLaws.{located-inside}
 use borrow.Author.Needs.{needs}
 use mathlib.Core.Path.{refl, sym, _∙_}
@@ -22,15 +22,15 @@ decode-with-requires : tie.Need-decode-with-requires
 decode-with-requires c κs = c .before .before .before .before .before .before .before .before .before .pre .2
 
 begin-requires : tie.Need-begin-requires
-begin-requires c κs = (c .before .before .before .before .before .before .before .before .before .before .before .before .before .before .pre .0, c .before .before .before .before .before .before .before .before .before .before .before .before .before .before .pre .1, c .before .before .before .before .before .before .before .before .before .before .before .before .before .before .pre .3, c .before .before .before .before .before .before .before .before .before .before .before .before .before .before .pre .4, c .before .before .before .before .before .before .before .before .before .before .before .before .before .before .pre .5, c .before .before .before .before .before .before .before .before .before .before .before .before .before .before .pre .6, c .before .before .before .before .decode-with .ensures, sym (c .before .before .before .before .before .before .before .before .before .look-up .ensures) ∙ c .before .before .before .before .before .before .before .first .given .1)
+begin-requires c κs = (c .before .before .before .before .before .before .before .before .before .before .before .before .before .before .pre .0, c .before .before .before .before .before .before .before .before .before .before .before .before .before .before .pre .1, c .before .before .before .before .before .before .before .before .before .before .before .before .before .before .pre .3, c .before .before .before .before .before .before .before .before .before .before .before .before .before .before .pre .4, c .before .before .before .before .before .before .before .before .before .before .before .before .before .before .pre .5, c .before .before .before .before .decode-with .ensures, sym (c .before .before .before .before .before .before .before .before .before .look-up .ensures) ∙ c .before .before .before .before .before .before .before .first .given .1)
 
 returns : tie.Need-returns
 unfolding instructed carried
-returns c = (rw (prepared-later (c .before .before .before .before .before .before .before .before .before .before .before .before .before .before .before .before .before .before .before .before .before .args .lag) (joined (c .before .before .before .before .before .before .before .before .before .before .before .before .before .before .before .before .before .before .before .before .before .args .core) (c .before .before .before .before .before .before .before .before .before .before .before .before .before .before .before .before .before .before .before .before .before .args .regs .now)) (view (joined (c .before .before .before .before .before .before .before .before .before .before .before .before .before .before .before .before .before .before .before .before .before .args .core) (c .before .before .before .before .before .before .before .before .before .before .before .before .before .before .before .before .before .before .before .before .before .args .regs .now)) (c .before .before .before .before .before .before .before .before .before .before .before .before .before .before .before .before .before .before .before .before .before .args .memory .now) (c .before .before .before .before .before .before .before .before .before .before .before .before .before .before .before .before .before .before .before .before .before .args .pages .now)), prepared-at (joined (c .before .before .before .before .before .before .before .before .before .before .before .before .before .before .before .before .before .before .before .before .before .args .core) (c .before .before .before .before .before .before .before .before .before .before .before .before .before .before .before .before .before .before .before .before .before .args .regs .now)) (c .before .before .before .before .before .before .before .before .before .before .before .before .before .before .before .before .before .before .before .before .before .args .memory .now) (c .before .before .before .before .before .before .before .before .before .before .before .before .before .before .before .before .before .before .before .before .before .args .pages .now) _ _ (c .before .before .before .before .before .before .before .before .before .before .before .before .before .before .before .before .before .before .before .before .before .pre .3) (c .before .before .before .before .before .before .before .before .before .before .before .before .before .before .before .before .before .before .before .before .before .pre .4) _ (c .before .before .before .before .before .before .before .before .before .before .before .before .before .before .before .before .look-up .ensures) _ (c .before .before .before .before .before .before .before .before .before .before .before .before .before .before .first .given .1)) (c .before .before .before .before .before .before .begin .ensures .0), c .before .before .before .before .before .before .begin .ensures .1)
+returns c = (λ s. rw (prepared-at (joined (c .before .before .before .before .before .before .before .before .before .before .before .before .before .before .before .before .before .before .before .before .before .args .core) (c .before .before .before .before .before .before .before .before .before .before .before .before .before .before .before .before .before .before .before .before .before .args .regs .now)) (c .before .before .before .before .before .before .before .before .before .before .before .before .before .before .before .before .before .before .before .before .before .args .memory .now) (c .before .before .before .before .before .before .before .before .before .before .before .before .before .before .before .before .before .before .before .before .before .args .pages .now) _ _ (c .before .before .before .before .before .before .before .before .before .before .before .before .before .before .before .before .before .before .before .before .before .pre .3) (c .before .before .before .before .before .before .before .before .before .before .before .before .before .before .before .before .before .before .before .before .before .pre .4) _ (c .before .before .before .before .before .before .before .before .before .before .before .before .before .before .before .before .look-up .ensures) _ (c .before .before .before .before .before .before .before .before .before .before .before .before .before .before .first .given .1)) (c .before .before .before .before .before .before .begin .ensures .0 s), c .before .before .before .before .before .before .begin .ensures .1)
 
 returns-2 : tie.Need-returns-2
 unfolding instructed carried
-returns-2 c = (rw (c .deny .ensures .0, prepared-later (c .before .before .before .before .before .before .before .before .before .before .args .lag) (joined (c .before .before .before .before .before .before .before .before .before .before .args .core) (c .before .before .before .before .before .before .before .before .before .before .args .regs .now)) (view (joined (c .before .before .before .before .before .before .before .before .before .before .args .core) (c .before .before .before .before .before .before .before .before .before .before .args .regs .now)) (c .before .before .before .before .before .before .before .before .before .before .args .memory .now) (c .before .before .before .before .before .before .before .before .before .before .args .pages .now)), prepared-refused (joined (c .before .before .before .before .before .before .before .before .before .before .args .core) (c .before .before .before .before .before .before .before .before .before .before .args .regs .now)) (c .before .before .before .before .before .before .before .before .before .before .args .memory .now) (c .before .before .before .before .before .before .before .before .before .before .args .pages .now) _ _ (c .before .before .before .before .before .before .before .before .before .before .pre .3) (c .before .before .before .before .before .before .before .before .before .before .pre .4) _ (c .before .before .before .before .before .look-up .ensures) _ (c .before .before .before .first2 .given .1), ← c .before .advance .ensures) (failed (later (c .before .before .before .before .before .before .before .before .before .before .args .lag) (joined (c .before .before .before .before .before .before .before .before .before .before .args .core) (c .before .before .before .before .before .before .before .before .before .before .args .regs .now))) _ (c .before .before .before .before .before .before .before .before .before .before .args .memory .now) _ (c .before .before .before .before .before .before .before .before .before .before .args .pages .now) (c .before .before .before .before .before .before .before .before .before .before .args .ports .now) _ _ (refl) (c .deny .ensures .1 (c .before .before .before .before .before .before .before .before .before .before .args .lag) (c .before .before .before .before .before .before .before .before .before .before .args .regs .now))), c .deny .ensures .2)
+returns-2 c = (λ s. rw (c .deny .ensures, timer-none _ _, prepared-refused (joined (c .before .before .before .before .before .before .before .before .before .before .args .core) (c .before .before .before .before .before .before .before .before .before .before .args .regs .now)) (c .before .before .before .before .before .before .before .before .before .before .args .memory .now) (c .before .before .before .before .before .before .before .before .before .before .args .pages .now) _ _ (c .before .before .before .before .before .before .before .before .before .before .pre .3) (c .before .before .before .before .before .before .before .before .before .before .pre .4) _ (c .before .before .before .before .before .look-up .ensures) _ (c .before .before .before .first2 .given .1), ← c .before .advance .ensures) (failed (withProcessor s (joined (c .before .before .before .before .before .before .before .before .before .before .args .core) (c .before .before .before .before .before .before .before .before .before .before .args .regs .now))) _ (c .before .before .before .before .before .before .before .before .before .before .args .memory .now) _ (c .before .before .before .before .before .before .before .before .before .before .args .pages .now) (c .before .before .before .before .before .before .before .before .before .before .args .ports .now) _ _ (refl) refl), rw (c .deny .ensures) (unsettled-lasting _ _ refl))
 
 pub instruct-spec : {M : Type 1} → statement M
 instruct-spec =

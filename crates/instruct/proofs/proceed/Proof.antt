@@ -1,14 +1,14 @@
--- Written by tools/prove.py from answers/instruct.py: answer 49221bd931d7, proof e1a64fd63e68.
+-- Written by tools/prove.py from answers/instruct.py: answer 29060a942264, proof 37026459b02c.
 -- `instruct::proceed` meets its contract. Assumes nothing.
 use Rattle.accumulate.proofs.WayLaws.{way-user}
-use Rattle.clock.specs.Later.{later}
 use Rattle.instruct.proofs.UserLaws.{writes-by, few-written, worked-ordinary, became-worked, settled-by}
 use Rattle.instruct.proofs.proceed.Statement.{statement}
 use Rattle.instruct.proofs.proceed.Tie as tie
 use Rattle.isa.specs.Mil1750.{mil1750, contextOf}
 use Rattle.machine.specs.Instructions.{operated}
-use Rattle.machine.specs.State.{joined}
+use Rattle.machine.specs.State.{joined, withProcessor}
 use Rattle.moved.proofs.ActLaws.{accessed-clear, accessed-fault, failed}
+use Rattle.moved.proofs.MovedLaws.{timer-none, unsettled-lasting}
 use borrow.Author.Needs.{needs}
 use mathlib.Core.Path.{refl, _∙_}
 use native.Mathlib.Omega.{arith}
@@ -27,11 +27,11 @@ work-requires c κs = (c .before .before .before .before .before .before .before
 
 returns : tie.Need-returns
 unfolding operated mil1750 contextOf
-returns c = (λ lag ports. rw (← accessed-clear (later lag (joined (c .before .before .before .before .before .before .before .before .before .before .before .before .before .before .before .args .core) (c .before .before .before .before .before .before .before .before .before .before .before .before .before .before .before .args .regs .now))) (c .before .before .before .before .before .before .before .before .before .before .before .before .before .before .before .args .memory .now) (c .before .before .before .before .before .before .before .before .before .before .before .before .before .before .before .args .pages .now) ports (c .before .before .before .before .before .before .before .before .before .before .before .before .before .before .before .args .n) _ _ _ _ (c .before .before .before .before .before .before .before .before .before .before .before .before .before .before .before .pre .3) (c .before .before .before .before .before .before .before .before .before .before .before .before .before .before .before .pre .4) (c .before .before .before .before .before .before .before .before .before .span-from .ensures ∙ writes-by (c .before .before .before .before .before .before .before .before .before .before .before .before .before .before .before .args .regs .now) (c .before .before .before .before .before .before .before .before .before .before .before .before .before .before .before .args .n) _ _ _ refl (c .before .before .before .before .before .before .before .before .before .before .before .before .before .before .before .pre .1) (c .before .before .before .before .before .before .before .before .before .before .before .write-start .ensures) (c .before .before .before .before .before .before .before .before .before .before .write-count .ensures .0)) (c .before .before .before .before .before .before .before .before .check-span .ensures) (c .before .before .before .before .before .before .enum-told .given .1), way-user (c .before .before .before .before .before .before .before .before .before .before .before .before .before .before .before .args .n) 0 (c .before .before .before .before .before .before .before .before .before .before .before .before .before .before .before .pre .7) (omega arith)) (became-worked lag (joined (c .before .before .before .before .before .before .before .before .before .before .before .before .before .before .before .args .core) (c .before .before .before .before .before .before .before .before .before .before .before .before .before .before .before .args .regs .now)) (c .before .before .before .before .before .before .before .before .before .before .before .before .before .before .before .args .memory .now) (c .before .before .before .before .before .before .before .before .before .before .before .before .before .before .before .args .pages .now) ports (c .before .before .before .before .before .before .before .before .before .before .before .before .before .before .before .args .n) _ _ _ _ (worked-ordinary (joined (c .before .before .before .before .before .before .before .before .before .before .before .before .before .before .before .args .core) (c .before .before .before .before .before .before .before .before .before .before .before .before .before .before .before .args .regs .now)) (c .before .before .before .before .before .before .before .before .before .before .before .before .before .before .before .args .memory .now) (c .before .before .before .before .before .before .before .before .before .before .before .before .before .before .before .args .pages .now) (c .before .before .before .before .before .before .before .before .before .before .before .before .before .before .before .args .n) _ _ _ _ _ _ _ (c .before .before .before .before .before .before .before .before .before .before .before .before .before .before .before .pre .1) (c .before .before .before .before .before .before .before .before .before .before .before .before .before .before .before .pre .2) (c .before .before .before .before .before .before .before .before .before .span-from .ensures ∙ writes-by (c .before .before .before .before .before .before .before .before .before .before .before .before .before .before .before .args .regs .now) (c .before .before .before .before .before .before .before .before .before .before .before .before .before .before .before .args .n) _ _ _ refl (c .before .before .before .before .before .before .before .before .before .before .before .before .before .before .before .pre .1) (c .before .before .before .before .before .before .before .before .before .before .before .write-start .ensures) (c .before .before .before .before .before .before .before .before .before .before .write-count .ensures .0)) (c .before .before .before .work .ensures .0) (c .before .before .before .work .ensures .1)) (c .weighed .ensures .3 _ _)), settled-by (c .before .before .before .before .before .before .before .before .before .before .before .before .before .before .before .args .core) _ _ (c .before .before .before .before .before .before .before .before .before .before .before .before .before .before .before .args .regs .now) _ _ (c .weighed .ensures .1) (c .weighed .ensures .2) (c .weighed .ensures .0) (c .before .before .before .work .ensures .0))
+returns c = λ ports. (λ s. rw (c .weighed .ensures, timer-none _ _, ← accessed-clear (withProcessor s (joined (c .before .before .before .before .before .before .before .before .before .before .before .before .before .before .before .args .core) (c .before .before .before .before .before .before .before .before .before .before .before .before .before .before .before .args .regs .now))) (c .before .before .before .before .before .before .before .before .before .before .before .before .before .before .before .args .memory .now) (c .before .before .before .before .before .before .before .before .before .before .before .before .before .before .before .args .pages .now) ports (c .before .before .before .before .before .before .before .before .before .before .before .before .before .before .before .args .n) _ _ _ _ (c .before .before .before .before .before .before .before .before .before .before .before .before .before .before .before .pre .3) (c .before .before .before .before .before .before .before .before .before .before .before .before .before .before .before .pre .4) (c .before .before .before .before .before .before .before .before .before .span-from .ensures ∙ writes-by (c .before .before .before .before .before .before .before .before .before .before .before .before .before .before .before .args .regs .now) (c .before .before .before .before .before .before .before .before .before .before .before .before .before .before .before .args .n) _ _ _ refl (c .before .before .before .before .before .before .before .before .before .before .before .before .before .before .before .pre .1) (c .before .before .before .before .before .before .before .before .before .before .before .write-start .ensures) (c .before .before .before .before .before .before .before .before .before .before .write-count .ensures .0)) (c .before .before .before .before .before .before .before .before .check-span .ensures) (c .before .before .before .before .before .before .enum-told .given .1), way-user (c .before .before .before .before .before .before .before .before .before .before .before .before .before .before .before .args .n) 0 (c .before .before .before .before .before .before .before .before .before .before .before .before .before .before .before .pre .7) (omega arith)) (became-worked (withProcessor s (joined (c .before .before .before .before .before .before .before .before .before .before .before .before .before .before .before .args .core) (c .before .before .before .before .before .before .before .before .before .before .before .before .before .before .before .args .regs .now))) (c .before .before .before .before .before .before .before .before .before .before .before .before .before .before .before .args .memory .now) (c .before .before .before .before .before .before .before .before .before .before .before .before .before .before .before .args .pages .now) ports (c .before .before .before .before .before .before .before .before .before .before .before .before .before .before .before .args .n) _ _ _ (worked-ordinary (joined (c .before .before .before .before .before .before .before .before .before .before .before .before .before .before .before .args .core) (c .before .before .before .before .before .before .before .before .before .before .before .before .before .before .before .args .regs .now)) (c .before .before .before .before .before .before .before .before .before .before .before .before .before .before .before .args .memory .now) (c .before .before .before .before .before .before .before .before .before .before .before .before .before .before .before .args .pages .now) (c .before .before .before .before .before .before .before .before .before .before .before .before .before .before .before .args .n) _ _ _ _ _ _ _ (c .before .before .before .before .before .before .before .before .before .before .before .before .before .before .before .pre .1) (c .before .before .before .before .before .before .before .before .before .before .before .before .before .before .before .pre .2) (c .before .before .before .before .before .before .before .before .before .span-from .ensures ∙ writes-by (c .before .before .before .before .before .before .before .before .before .before .before .before .before .before .before .args .regs .now) (c .before .before .before .before .before .before .before .before .before .before .before .before .before .before .before .args .n) _ _ _ refl (c .before .before .before .before .before .before .before .before .before .before .before .before .before .before .before .pre .1) (c .before .before .before .before .before .before .before .before .before .before .before .write-start .ensures) (c .before .before .before .before .before .before .before .before .before .before .write-count .ensures .0)) (c .before .before .before .work .ensures .0) (c .before .before .before .work .ensures .1))), settled-by (c .before .before .before .before .before .before .before .before .before .before .before .before .before .before .before .args .core) _ _ (c .before .before .before .before .before .before .before .before .before .before .before .before .before .before .before .args .regs .now) _ _ (c .weighed .ensures) (c .before .before .before .work .ensures .0))
 
 returns-2 : tie.Need-returns-2
 unfolding operated mil1750 contextOf
-returns-2 c = (λ lag ports. rw (c .deny .ensures .0, ← accessed-fault (later lag (joined (c .before .before .before .before .before .before .before .before .before .before .before .before .before .args .core) (c .before .before .before .before .before .before .before .before .before .before .before .before .before .args .regs .now))) (c .before .before .before .before .before .before .before .before .before .before .before .before .before .args .memory .now) (c .before .before .before .before .before .before .before .before .before .before .before .before .before .args .pages .now) ports (c .before .before .before .before .before .before .before .before .before .before .before .before .before .args .n) _ _ _ _ (c .before .before .before .before .before .before .before .before .before .before .before .before .before .pre .3) (c .before .before .before .before .before .before .before .before .before .before .before .before .before .pre .4) (c .before .before .before .before .before .before .before .span-from .ensures ∙ writes-by (c .before .before .before .before .before .before .before .before .before .before .before .before .before .args .regs .now) (c .before .before .before .before .before .before .before .before .before .before .before .before .before .args .n) _ _ _ refl (c .before .before .before .before .before .before .before .before .before .before .before .before .before .pre .1) (c .before .before .before .before .before .before .before .before .before .write-start .ensures) (c .before .before .before .before .before .before .before .before .write-count .ensures .0)) (c .before .before .before .before .before .before .check-span .ensures) _ (c .before .before .before .before .verdict .given .1), ← c .before .advance .ensures) (failed (later lag (joined (c .before .before .before .before .before .before .before .before .before .before .before .before .before .args .core) (c .before .before .before .before .before .before .before .before .before .before .before .before .before .args .regs .now))) _ (c .before .before .before .before .before .before .before .before .before .before .before .before .before .args .memory .now) _ (c .before .before .before .before .before .before .before .before .before .before .before .before .before .args .pages .now) ports _ _ (refl) (c .deny .ensures .1 lag (c .before .before .before .before .before .before .before .before .before .before .before .before .before .args .regs .now))), c .deny .ensures .2)
+returns-2 c = λ ports. (λ s. rw (c .deny .ensures, timer-none _ _, ← accessed-fault (withProcessor s (joined (c .before .before .before .before .before .before .before .before .before .before .before .before .before .args .core) (c .before .before .before .before .before .before .before .before .before .before .before .before .before .args .regs .now))) (c .before .before .before .before .before .before .before .before .before .before .before .before .before .args .memory .now) (c .before .before .before .before .before .before .before .before .before .before .before .before .before .args .pages .now) ports (c .before .before .before .before .before .before .before .before .before .before .before .before .before .args .n) _ _ _ _ (c .before .before .before .before .before .before .before .before .before .before .before .before .before .pre .3) (c .before .before .before .before .before .before .before .before .before .before .before .before .before .pre .4) (c .before .before .before .before .before .before .before .span-from .ensures ∙ writes-by (c .before .before .before .before .before .before .before .before .before .before .before .before .before .args .regs .now) (c .before .before .before .before .before .before .before .before .before .before .before .before .before .args .n) _ _ _ refl (c .before .before .before .before .before .before .before .before .before .before .before .before .before .pre .1) (c .before .before .before .before .before .before .before .before .before .write-start .ensures) (c .before .before .before .before .before .before .before .before .write-count .ensures .0)) (c .before .before .before .before .before .before .check-span .ensures) _ (c .before .before .before .before .verdict .given .1), ← c .before .advance .ensures) (failed (withProcessor s (joined (c .before .before .before .before .before .before .before .before .before .before .before .before .before .args .core) (c .before .before .before .before .before .before .before .before .before .before .before .before .before .args .regs .now))) _ (c .before .before .before .before .before .before .before .before .before .before .before .before .before .args .memory .now) _ (c .before .before .before .before .before .before .before .before .before .before .before .before .before .args .pages .now) ports _ _ (refl) refl), rw (c .deny .ensures) (unsettled-lasting _ _ refl))
 
 pub proceed-spec : {M : Type 1} → statement M
 proceed-spec =

@@ -1,4 +1,4 @@
--- Written by tools/prove.py from answers/loader.py: answer 4c8e85aab057, proof d4e3532a40bf.
+-- Written by tools/prove.py from answers/loader.py: answer bcd52672bf26, proof 7edbe251e704.
 -- `loader::write_bodies` meets its contract. Assumes nothing.
 use Prim.Native.Nat.{ℕ, _+_}
 use Rattle.image.proofs.SoundLaws.{entries-within, entries-rest, image-sound}
@@ -46,7 +46,7 @@ mul-at-2 : tie.Need-mul-at-2 Inv-loop μ-loop
 mul-at-2 c = omega (arith, body-inside _ _ _ (c .before .before .before .before .before .before .before .before .entry-at .ensures) _ (c .before .before .before .before .before .before .before .before .before .before .loop .inv .1) _ (image-sound _ _ (c .before .before .before .before .before .before .before .before .before .before .before .before .before .before .before .pre .0)) _ (c .before .before .before .before .before .before .before .before .before .before .loop .inv .0) (c .before .before .before .before .before .before .before .before .before .loop-test .taken))
 
 add-at-2 : tie.Need-add-at-2 Inv-loop μ-loop
-add-at-2 c = omega (arith, body-inside _ _ _ (c .before .before .before .before .before .before .before .before .entry-at .ensures) _ (c .before .before .before .before .before .before .before .before .before .before .loop .inv .1) _ (image-sound _ _ (c .before .before .before .before .before .before .before .before .before .before .before .before .before .before .before .pre .0)) _ (c .before .before .before .before .before .before .before .before .before .before .loop .inv .0) (c .before .before .before .before .before .before .before .before .before .loop-test .taken))
+add-at-2 c = omega (arith, c .before .before .before .before .before .before .before .before .before .before .before .before .before .before .before .good .1 .0 .0, body-inside _ _ _ (c .before .before .before .before .before .before .before .before .entry-at .ensures) _ (c .before .before .before .before .before .before .before .before .before .before .loop .inv .1) _ (image-sound _ _ (c .before .before .before .before .before .before .before .before .before .before .before .before .before .before .before .pre .0)) _ (c .before .before .before .before .before .before .before .before .before .before .loop .inv .0) (c .before .before .before .before .before .before .before .before .before .loop-test .taken))
 
 add-k : tie.Need-add-k Inv-loop μ-loop
 add-k c = omega arith

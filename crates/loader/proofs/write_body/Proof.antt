@@ -1,4 +1,4 @@
--- Written by tools/prove.py from answers/loader.py: answer 8cbdf3866ff4, proof 4286a31ef92c.
+-- Written by tools/prove.py from answers/loader.py: answer 9718c8be3cf3, proof 414e752cfce4.
 -- `loader::write_body` meets its contract. Assumes nothing.
 use Rattle.loader.proofs.BodyLaws.{within-memory, within-pages, within-registers, within-control, to-memory, to-pages, to-registers, to-control}
 use Rattle.loader.proofs.write_body.Statement.{statement}
@@ -27,7 +27,7 @@ write-control-requires : tie.Need-write-control-requires
 write-control-requires c κs = (within-control _ _ (c .before .before .before .before .before .before .before .before .before .before .before .pre .0) (c .before .before .before .before .if1 .left) (c .before .before .if2 .left) (c .if3 .left), c .before .before .before .before .before .before .before .before .before .before .before .pre .2)
 
 returns-4 : tie.Need-returns-4
-returns-4 c = λ ports. to-control _ _ _ _ _ _ _ (c .before .before .before .before .before .if1 .left) (c .before .before .before .if2 .left) _ (c .before .if3 .left) (c .write-control .ensures)
+returns-4 c = λ ports. to-control _ _ _ _ _ _ _ (c .before .before .before .before .before .if1 .left) (c .before .before .before .if2 .left) (c .before .if3 .left) _ (c .write-control .ensures)
 
 pub write-body-spec : {M : Type 1} → statement M
 write-body-spec =

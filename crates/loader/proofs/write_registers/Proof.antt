@@ -1,8 +1,7 @@
--- Written by tools/prove.py from answers/loader.py: answer d2697ff36247, proof fec1d4e0dd61.
+-- Written by tools/prove.py from answers/loader.py: answer 56bd0e9a693f, proof 53d881ce341a.
 -- `loader::write_registers` meets its contract. Assumes nothing.
 use Rattle.loader.proofs.write_registers.Statement.{statement}
 use Rattle.loader.proofs.write_registers.Tie as tie
-use Rattle.machine.specs.State.{withRegs}
 use borrow.Author.Needs.{needs}
 use lib.ListN.{length}
 use mathlib.Core.Path.{_≡_, refl}
@@ -15,7 +14,6 @@ write-words-requires : tie.Need-write-words-requires
 write-words-requires c κs = let l : 16 ≡ length (c .before .before .before .args .s .regs) = slice-aggregate-write-words c in (omega (arith, c .before .before .before .pre .0), c .before .before .before .pre .1)
 
 returns : tie.Need-returns
-unfolding withRegs
 returns c = rw (c .before .write-words .ensures) refl
 
 pub write-registers-spec : {M : Type 1} → statement M

@@ -1,4 +1,4 @@
--- Written by tools/prove.py from answers/prepare.py: answer 751c8bc5596c, proof 7809f5602a3c.
+-- Written by tools/prove.py from answers/prepare.py: answer 91d2a2ed781f, proof 124a006528b3.
 -- `prepare::derive` meets its contract. Assumes nothing.
 use Rattle.isa.specs.Mil1750.{mil1750}
 use Rattle.machine.specs.Instructions.{derived}
@@ -9,7 +9,7 @@ use borrow.Author.Tests.{eq-eqb, ne-eqb}
 
 returns : tie.Need-returns
 unfolding derived mil1750
-returns c = rw (eq-eqb _ _ (c .before .before .if1 .taken), ← c .before .before .before .derive .ensures, ← c .before .before .before .before .before .before .pre .1, ← c .before .before .before .before .before .before .pre .2, ← c .before .read-word .ensures) (c .redirect .ensures (c .before .before .before .before .before .before .args .regs .now))
+returns c = rw (eq-eqb _ _ (c .before .before .if1 .taken), ← c .before .before .before .derive .ensures, ← c .before .before .before .before .before .before .pre .1, ← c .before .before .before .before .before .before .pre .2, ← c .before .read-word .ensures) (c .redirect .ensures)
 
 returns-2 : tie.Need-returns-2
 unfolding derived mil1750

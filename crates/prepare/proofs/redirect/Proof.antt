@@ -1,4 +1,4 @@
--- Written by tools/prove.py from answers/prepare.py: answer a015f0e95c60, proof 0b2f50b12e45.
+-- Written by tools/prove.py from answers/prepare.py: answer 03a5cb75ef43, proof 783e7bea54c8.
 -- `prepare::redirect` meets its contract. Assumes nothing.
 use Rattle.machine.specs.Instructions.{redirected}
 use Rattle.machine.specs.State.{advanced}
@@ -9,11 +9,11 @@ use mathlib.Core.Path.{refl}
 
 returns : tie.Need-returns
 unfolding redirected advanced
-returns c = λ regs. rw (c .before .before .got .given .1) (c .ready .ensures)
+returns c = rw (c .before .before .got .given .1) (c .ready .ensures)
 
 returns-2 : tie.Need-returns-2
 unfolding redirected advanced
-returns-2 c = λ regs. rw (c .before .before .got2 .given .1, ← c .advance .ensures) refl
+returns-2 c = rw (c .before .before .got2 .given .1, ← c .advance .ensures) refl
 
 pub redirect-spec : {M : Type 1} → statement M
 redirect-spec =

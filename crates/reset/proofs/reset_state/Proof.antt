@@ -1,8 +1,8 @@
--- Written by tools/prove.py from answers/reset.py: answer 325ecebc6642, proof 2b3bd259b62f.
+-- Written by tools/prove.py from answers/reset.py: answer fbc979cf5bd4, proof 4e1efeb1bfa1.
 -- `reset::reset_state` meets its contract. Assumes nothing.
+use Rattle.machine.specs.State.{resetState}
 use Rattle.reset.proofs.reset_state.Statement.{statement}
 use Rattle.reset.proofs.reset_state.Tie as tie
-use Rattle.reset.specs.Reset.{resetState}
 use mathlib.Core.Path.{refl}
 
 returns : tie.Need-returns

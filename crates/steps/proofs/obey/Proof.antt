@@ -1,16 +1,16 @@
--- Written by tools/prove.py from answers/steps.py: answer 9c4d3123d86d, proof c262b2a4b983.
+-- Written by tools/prove.py from answers/steps.py: answer 9a1ced555edb, proof 4a9292d02e0d.
 -- `steps::obey` meets its contract. Assumes nothing.
 use Prim.Native.Nat.{ℕ, _+_, _≤_, _<_, _-_}
 use Rattle.clock.proofs.LaterLaws.{calm-fewer}
 use Rattle.clock.specs.Later.{Calm, later}
 use Rattle.isa.specs.Mil1750.{mil1750}
 use Rattle.machine.specs.Entries.{chosen}
-use Rattle.machine.specs.State.{keyOf, groupOf, joined}
-use Rattle.moved.proofs.TimeLaws.{same-here, same-onward, calm-same}
-use Rattle.moved.specs.Settled.{SameTime}
-use Rattle.steps.proofs.StepLaws.{going, row-made, row-on, sw-released, hold-released, time-released, later-released, chosen-released, chosen-later, chosen-settled}
+use Rattle.machine.specs.State.{keyOf, groupOf, withClock}
+use Rattle.machine.specs.declared.State.{State}
+use Rattle.steps.proofs.StepLaws.{going, row-made, row-on, sw-released, hold-released, chosen-released, chosen-settled}
 use Rattle.steps.proofs.obey.Statement.{statement}
 use Rattle.steps.proofs.obey.Tie as tie
+use Rattle.steps.specs.Rows.{lateAt}
 use borrow.Author.Tests.{not-false}
 use lib.ListN.{length}
 use mathlib.Core.Bool.{false}
@@ -18,7 +18,7 @@ use mathlib.Core.Path.{_≡_, refl, sym, ap, _∙_}
 use native.Mathlib.Omega.{arith}
 
 abbrev Inv-loop : tie.InvT-loop
-Inv-loop from most regs₀ memory₀ pages₀ ports₀ table key group end t₀ lag₀ regs memory pages ports t lag = (length memory ≡ length memory₀) × (length pages ≡ length pages₀) × (length ports ≡ length ports₀) × (lag₀ ≤ lag) × (lag < end) × (end ≤ most) × (key ≡ keyOf (t .sw)) × (group ≡ groupOf (t .sw)) × (t .hold ≡ false) × Calm (most - 1) t × (lag + 1 < end → 16 ≤ chosen (joined t regs)) × SameTime t₀ t × ((k : ℕ) → going mil1750 (k + (lag - lag₀)) (later lag₀ (joined t₀ regs₀)) memory₀ pages₀ ports₀ ≡ going mil1750 k (later lag (joined t regs)) memory pages ports)
+Inv-loop from most regs₀ memory₀ pages₀ ports₀ table key group end t₀ lag₀ regs memory pages ports t lag = (length memory ≡ length memory₀) × (length pages ≡ length pages₀) × (length ports ≡ length ports₀) × (lag₀ ≤ lag) × (lag < end) × (end ≤ most) × (key ≡ keyOf (t .sw)) × (group ≡ groupOf (t .sw)) × (t .hold ≡ false) × (lag + 1 < end → 16 ≤ chosen t) × ((s : State) → Calm (most - 1) (s .clock) → (k : ℕ) → going mil1750 (k + (lag - lag₀)) (lateAt s lag₀ t₀ regs₀) memory₀ pages₀ ports₀ ≡ going mil1750 k (lateAt s lag t regs) memory pages ports)
 
 abbrev μ-loop : tie.MeasureT-loop
 μ-loop from most regs₀ memory₀ pages₀ ports₀ table key group end t₀ lag₀ regs memory pages ports t lag = end - lag
@@ -36,10 +36,10 @@ release-requires : tie.Need-release-requires Inv-loop μ-loop
 release-requires c κs = omega arith
 
 loop-holds : tie.Need-loop-holds Inv-loop μ-loop
-loop-holds c = (refl, refl, refl, omega arith, c .before .end-of .ensures .1, c .before .end-of .ensures .2, c .before .before .before .key-of .ensures .0 ∙ ap keyOf (sw-released _ _ (c .release .ensures)), c .before .before .group-of .ensures .0 ∙ ap groupOf (sw-released _ _ (c .release .ensures)), hold-released _ _ (c .release .ensures), calm-same _ _ _ (time-released _ _ (c .release .ensures)) (c .before .before .before .before .before .before .before .pre .4), λ h. rw (chosen-released _ _ (c .release .ensures) (c .before .end-of .ensures .3 h) (c .before .before .before .before .before .before .before .args .regs .now)) (c .before .before .before .before .before .before .before .pre .5), same-here _, λ k. ap (λ j. going mil1750 j (later (c .before .before .before .before .before .before .before .args .from) (joined (c .release .result) (c .before .before .before .before .before .before .before .args .regs .now))) (c .before .before .before .before .before .before .before .args .memory .now) (c .before .before .before .before .before .before .before .args .pages .now) (c .before .before .before .before .before .before .before .args .ports .now)) (omega arith))
+loop-holds c = (refl, refl, refl, omega arith, c .before .end-of .ensures .1, c .before .end-of .ensures .2, c .before .before .before .key-of .ensures .0 ∙ ap keyOf (sw-released _ _ (c .release .ensures)), c .before .before .group-of .ensures .0 ∙ ap groupOf (sw-released _ _ (c .release .ensures)), hold-released _ _ (c .release .ensures), λ h. rw (chosen-released _ _ (c .release .ensures) (c .before .end-of .ensures .3 h)) (c .before .before .before .before .before .before .before .pre .4), λ s q k. ap (λ j. going mil1750 j (lateAt s (c .before .before .before .before .before .before .before .args .from) (c .release .result) (c .before .before .before .before .before .before .before .args .regs .now)) (c .before .before .before .before .before .before .before .args .memory .now) (c .before .before .before .before .before .before .before .args .pages .now) (c .before .before .before .before .before .before .before .args .ports .now)) (omega arith))
 
 instruct-requires : tie.Need-instruct-requires Inv-loop μ-loop
-instruct-requires c κs = (omega arith, omega arith, c .before .before .before .before .before .before .before .before .before .before .before .before .pre .2, c .before .before .before .before .loop .inv .6, c .before .before .before .before .loop .inv .7, c .before .before .before .before .before .before .before .group-of .ensures .1, calm-fewer _ _ _ (omega (arith, c .before .before .before .before .loop .inv .4, c .before .before .before .before .loop .inv .5)) (c .before .before .before .before .loop .inv .9))
+instruct-requires c κs = (omega arith, omega arith, c .before .before .before .before .before .before .before .before .before .before .before .before .pre .2, c .before .before .before .before .loop .inv .6, c .before .before .before .before .loop .inv .7, c .before .before .before .before .before .before .before .group-of .ensures .1)
 
 add-lag : tie.Need-add-lag Inv-loop μ-loop
 add-lag c = omega (arith, c .before .before .before .before .before .before .before .before .before .before .before .before .loop .inv .4)
@@ -48,37 +48,37 @@ ended-requires : tie.Need-ended-requires Inv-loop μ-loop
 ended-requires c κs = omega arith
 
 same-length : tie.Need-same-length Inv-loop μ-loop
-same-length c = let l = c .before .before .before .before .before .before .before .before .before .before .before .before .before .before .before .loop in c .before .before .before .before .before .before .before .before .before .before .instruct .kept .1 .1 .1 .1 .1 .0 ∙ l .inv .0
+same-length c = let l = c .before .before .before .before .before .before .before .before .before .before .before .before .before .before .before .loop in c .before .before .before .before .before .before .before .before .before .before .instruct .kept .1 .1 .1 .1 .0 ∙ l .inv .0
 
 same-length-2 : tie.Need-same-length-2 Inv-loop μ-loop
-same-length-2 c = let l = c .before .before .before .before .before .before .before .before .before .before .before .before .before .before .before .loop in c .before .before .before .before .before .before .before .before .before .before .instruct .kept .1 .1 .1 .1 .1 .1 .0 ∙ l .inv .1
+same-length-2 c = let l = c .before .before .before .before .before .before .before .before .before .before .before .before .before .before .before .loop in c .before .before .before .before .before .before .before .before .before .before .instruct .kept .1 .1 .1 .1 .1 .0 ∙ l .inv .1
 
 same-length-3 : tie.Need-same-length-3 Inv-loop μ-loop
-same-length-3 c = let l = c .before .before .before .before .before .before .before .before .before .before .before .before .before .before .before .loop in c .before .before .before .before .before .before .before .before .before .before .instruct .kept .1 .1 .1 .1 .1 .1 .1 .0 ∙ l .inv .2
+same-length-3 c = let l = c .before .before .before .before .before .before .before .before .before .before .before .before .before .before .before .loop in c .before .before .before .before .before .before .before .before .before .before .instruct .kept .1 .1 .1 .1 .1 .1 .0 ∙ l .inv .2
 
 returns : tie.Need-returns Inv-loop μ-loop
-returns c = let l = c .before .before .before .before .before .before .before .before .before .before .before .before .before .before .before .loop in rw (c .ended .ensures) (record { onward = omega (arith, l .inv .3); within = omega (arith, l .inv .4, l .inv .5); time-kept = λ h. same-onward _ _ _ (time-released _ _ (c .before .before .before .before .before .before .before .before .before .before .before .before .before .before .before .before .release .ensures)) (same-onward _ _ _ (l .inv .11) (c .before .before .before .before .before .before .before .before .before .before .instruct .ensures .1 .time-kept h)); made = row-made mil1750 (c .before .before .before .before .before .before .before .before .before .before .before .before .before .before .before .before .before .before .before .before .before .before .before .args .from) (l .lag) (l .inv .3) (later (c .before .before .before .before .before .before .before .before .before .before .before .before .before .before .before .before .before .before .before .before .before .before .before .args .from) (joined (c .before .before .before .before .before .before .before .before .before .before .before .before .before .before .before .before .release .result) (c .before .before .before .before .before .before .before .before .before .before .before .before .before .before .before .before .before .before .before .before .before .before .before .args .regs .now))) (later (l .lag) (joined (l .t) (l .regs))) (c .before .before .before .before .before .before .before .before .before .before .before .before .before .before .before .before .before .before .before .before .before .before .before .args .memory .now) (c .before .before .before .before .before .before .before .before .before .before .before .before .before .before .before .before .before .before .before .before .before .before .before .args .pages .now) (c .before .before .before .before .before .before .before .before .before .before .before .before .before .before .before .before .before .before .before .before .before .before .before .args .ports .now) (l .memory) (l .pages) (l .ports) (l .inv .12) (c .before .before .before .before .before .before .before .before .before .before .instruct .result .lagging) (c .before .before .before .before .before .before .before .before .before .before .instruct .result .core) _ _ _ _ (c .before .before .before .before .before .before .before .before .before .before .instruct .ensures .0) (later (c .before .before .before .before .before .before .before .before .before .before .before .before .before .before .before .before .before .before .before .before .before .before .before .args .from) (joined (c .before .before .before .before .before .before .before .before .before .before .before .before .before .before .before .before .before .before .before .before .before .before .before .args .core) (c .before .before .before .before .before .before .before .before .before .before .before .before .before .before .before .before .before .before .before .before .before .before .before .args .regs .now))) (later-released _ _ (c .before .before .before .before .before .before .before .before .before .before .before .before .before .before .before .before .release .ensures) (c .before .before .before .before .before .before .before .before .before .before .before .before .before .before .before .before .before .before .before .before .before .before .before .args .from) (c .before .before .before .before .before .before .before .before .before .before .before .before .before .before .before .before .before .before .before .before .before .before .before .args .regs .now)) (rw (chosen-later (c .before .before .before .before .before .before .before .before .before .before .before .before .before .before .before .before .before .before .before .before .before .before .before .args .from) (joined (c .before .before .before .before .before .before .before .before .before .before .before .before .before .before .before .before .before .before .before .before .before .before .before .args .core) (c .before .before .before .before .before .before .before .before .before .before .before .before .before .before .before .before .before .before .before .before .before .before .before .args .regs .now))) (c .before .before .before .before .before .before .before .before .before .before .before .before .before .before .before .before .before .before .before .before .before .before .before .pre .5)) })
+returns c = let l = c .before .before .before .before .before .before .before .before .before .before .before .before .before .before .before .loop in rw (c .ended .ensures) (record { onward = omega (arith, l .inv .3); within = omega (arith, l .inv .4, l .inv .5); made = λ s q. row-made mil1750 s (c .before .before .before .before .before .before .before .before .before .before .before .before .before .before .before .before .before .before .before .before .before .before .before .args .from) (l .lag) (l .inv .3) _ _ (c .before .before .before .before .before .before .before .before .before .before .before .before .before .before .before .before .before .before .before .before .before .before .before .args .regs .now) (c .before .before .before .before .before .before .before .before .before .before .before .before .before .before .before .before .before .before .before .before .before .before .before .args .memory .now) (c .before .before .before .before .before .before .before .before .before .before .before .before .before .before .before .before .before .before .before .before .before .before .before .args .pages .now) (c .before .before .before .before .before .before .before .before .before .before .before .before .before .before .before .before .before .before .before .before .before .before .before .args .ports .now) (l .regs) (l .memory) (l .pages) (l .ports) (l .inv .10 s q) (c .before .before .before .before .before .before .before .before .before .before .instruct .result) _ _ _ _ (c .before .before .before .before .before .before .before .before .before .before .instruct .ensures .0 (withClock s (later (l .lag) (s .clock)))) (c .before .before .before .before .before .before .before .before .before .before .before .before .before .before .before .before .before .before .before .before .before .before .before .args .core) (c .before .before .before .before .before .before .before .before .before .before .before .before .before .before .before .before .release .ensures) (c .before .before .before .before .before .before .before .before .before .before .before .before .before .before .before .before .before .before .before .before .before .before .before .pre .4) })
 
 ended-requires-2 : tie.Need-ended-requires-2 Inv-loop μ-loop
 ended-requires-2 c κs = omega arith
 
 same-length-4 : tie.Need-same-length-4 Inv-loop μ-loop
-same-length-4 c = let l = c .before .before .before .before .before .before .before .before .before .before .before .before .before .before .before .before .loop in c .before .before .before .before .before .before .before .before .before .before .before .instruct .kept .1 .1 .1 .1 .1 .0 ∙ l .inv .0
+same-length-4 c = let l = c .before .before .before .before .before .before .before .before .before .before .before .before .before .before .before .before .loop in c .before .before .before .before .before .before .before .before .before .before .before .instruct .kept .1 .1 .1 .1 .0 ∙ l .inv .0
 
 same-length-5 : tie.Need-same-length-5 Inv-loop μ-loop
-same-length-5 c = let l = c .before .before .before .before .before .before .before .before .before .before .before .before .before .before .before .before .loop in c .before .before .before .before .before .before .before .before .before .before .before .instruct .kept .1 .1 .1 .1 .1 .1 .0 ∙ l .inv .1
+same-length-5 c = let l = c .before .before .before .before .before .before .before .before .before .before .before .before .before .before .before .before .loop in c .before .before .before .before .before .before .before .before .before .before .before .instruct .kept .1 .1 .1 .1 .1 .0 ∙ l .inv .1
 
 same-length-6 : tie.Need-same-length-6 Inv-loop μ-loop
-same-length-6 c = let l = c .before .before .before .before .before .before .before .before .before .before .before .before .before .before .before .before .loop in c .before .before .before .before .before .before .before .before .before .before .before .instruct .kept .1 .1 .1 .1 .1 .1 .1 .0 ∙ l .inv .2
+same-length-6 c = let l = c .before .before .before .before .before .before .before .before .before .before .before .before .before .before .before .before .loop in c .before .before .before .before .before .before .before .before .before .before .before .instruct .kept .1 .1 .1 .1 .1 .1 .0 ∙ l .inv .2
 
 returns-2 : tie.Need-returns-2 Inv-loop μ-loop
-returns-2 c = let l = c .before .before .before .before .before .before .before .before .before .before .before .before .before .before .before .before .loop in rw (c .ended2 .ensures) (record { onward = omega (arith, l .inv .3); within = omega (arith, l .inv .4, l .inv .5); time-kept = λ h. same-onward _ _ _ (time-released _ _ (c .before .before .before .before .before .before .before .before .before .before .before .before .before .before .before .before .before .release .ensures)) (same-onward _ _ _ (l .inv .11) (c .before .before .before .before .before .before .before .before .before .before .before .instruct .ensures .1 .time-kept h)); made = row-made mil1750 (c .before .before .before .before .before .before .before .before .before .before .before .before .before .before .before .before .before .before .before .before .before .before .before .before .args .from) (l .lag) (l .inv .3) (later (c .before .before .before .before .before .before .before .before .before .before .before .before .before .before .before .before .before .before .before .before .before .before .before .before .args .from) (joined (c .before .before .before .before .before .before .before .before .before .before .before .before .before .before .before .before .before .release .result) (c .before .before .before .before .before .before .before .before .before .before .before .before .before .before .before .before .before .before .before .before .before .before .before .before .args .regs .now))) (later (l .lag) (joined (l .t) (l .regs))) (c .before .before .before .before .before .before .before .before .before .before .before .before .before .before .before .before .before .before .before .before .before .before .before .before .args .memory .now) (c .before .before .before .before .before .before .before .before .before .before .before .before .before .before .before .before .before .before .before .before .before .before .before .before .args .pages .now) (c .before .before .before .before .before .before .before .before .before .before .before .before .before .before .before .before .before .before .before .before .before .before .before .before .args .ports .now) (l .memory) (l .pages) (l .ports) (l .inv .12) (c .before .before .before .before .before .before .before .before .before .before .before .instruct .result .lagging) (c .before .before .before .before .before .before .before .before .before .before .before .instruct .result .core) _ _ _ _ (c .before .before .before .before .before .before .before .before .before .before .before .instruct .ensures .0) (later (c .before .before .before .before .before .before .before .before .before .before .before .before .before .before .before .before .before .before .before .before .before .before .before .before .args .from) (joined (c .before .before .before .before .before .before .before .before .before .before .before .before .before .before .before .before .before .before .before .before .before .before .before .before .args .core) (c .before .before .before .before .before .before .before .before .before .before .before .before .before .before .before .before .before .before .before .before .before .before .before .before .args .regs .now))) (later-released _ _ (c .before .before .before .before .before .before .before .before .before .before .before .before .before .before .before .before .before .release .ensures) (c .before .before .before .before .before .before .before .before .before .before .before .before .before .before .before .before .before .before .before .before .before .before .before .before .args .from) (c .before .before .before .before .before .before .before .before .before .before .before .before .before .before .before .before .before .before .before .before .before .before .before .before .args .regs .now)) (rw (chosen-later (c .before .before .before .before .before .before .before .before .before .before .before .before .before .before .before .before .before .before .before .before .before .before .before .before .args .from) (joined (c .before .before .before .before .before .before .before .before .before .before .before .before .before .before .before .before .before .before .before .before .before .before .before .before .args .core) (c .before .before .before .before .before .before .before .before .before .before .before .before .before .before .before .before .before .before .before .before .before .before .before .before .args .regs .now))) (c .before .before .before .before .before .before .before .before .before .before .before .before .before .before .before .before .before .before .before .before .before .before .before .before .pre .5)) })
+returns-2 c = let l = c .before .before .before .before .before .before .before .before .before .before .before .before .before .before .before .before .loop in rw (c .ended2 .ensures) (record { onward = omega (arith, l .inv .3); within = omega (arith, l .inv .4, l .inv .5); made = λ s q. row-made mil1750 s (c .before .before .before .before .before .before .before .before .before .before .before .before .before .before .before .before .before .before .before .before .before .before .before .before .args .from) (l .lag) (l .inv .3) _ _ (c .before .before .before .before .before .before .before .before .before .before .before .before .before .before .before .before .before .before .before .before .before .before .before .before .args .regs .now) (c .before .before .before .before .before .before .before .before .before .before .before .before .before .before .before .before .before .before .before .before .before .before .before .before .args .memory .now) (c .before .before .before .before .before .before .before .before .before .before .before .before .before .before .before .before .before .before .before .before .before .before .before .before .args .pages .now) (c .before .before .before .before .before .before .before .before .before .before .before .before .before .before .before .before .before .before .before .before .before .before .before .before .args .ports .now) (l .regs) (l .memory) (l .pages) (l .ports) (l .inv .10 s q) (c .before .before .before .before .before .before .before .before .before .before .before .instruct .result) _ _ _ _ (c .before .before .before .before .before .before .before .before .before .before .before .instruct .ensures .0 (withClock s (later (l .lag) (s .clock)))) (c .before .before .before .before .before .before .before .before .before .before .before .before .before .before .before .before .before .before .before .before .before .before .before .before .args .core) (c .before .before .before .before .before .before .before .before .before .before .before .before .before .before .before .before .before .release .ensures) (c .before .before .before .before .before .before .before .before .before .before .before .before .before .before .before .before .before .before .before .before .before .before .before .before .pre .4) })
 
 loop-less : tie.Need-loop-less Inv-loop μ-loop
 loop-less c = omega (arith, c .before .before .before .before .before .before .before .before .before .before .before .before .before .before .before .loop .inv .4)
 
 loop-again : tie.Need-loop-again Inv-loop μ-loop
-loop-again c = let l = c .before .before .before .before .before .before .before .before .before .before .before .before .before .before .before .loop in let y = not-false (c .before .before .before .before .before .before .before .before .before .before .instruct .result .settled) (c .before .if1 .left) in let z = c .before .before .before .before .before .before .before .before .before .before .instruct .ensures .1 in let s = z .choice-kept y in let w = z .time-kept (z .lags y) in (c .before .before .before .before .before .before .before .before .before .before .instruct .kept .1 .1 .1 .1 .1 .0 ∙ l .inv .0, c .before .before .before .before .before .before .before .before .before .before .instruct .kept .1 .1 .1 .1 .1 .1 .0 ∙ l .inv .1, c .before .before .before .before .before .before .before .before .before .before .instruct .kept .1 .1 .1 .1 .1 .1 .1 .0 ∙ l .inv .2, omega (arith, l .inv .3), c .if2 .left, l .inv .5, l .inv .6 ∙ sym (s .key-kept), l .inv .7 ∙ sym (s .group-kept), s .hold-kept ∙ l .inv .8, calm-same _ _ _ w (l .inv .9), λ h. rw (chosen-settled _ _ s (l .regs) _) (l .inv .10 (c .if2 .left)), same-onward _ _ _ (l .inv .11) w, row-on mil1750 (c .before .before .before .before .before .before .before .before .before .before .before .before .before .before .before .before .before .before .before .before .before .before .before .args .from) (l .lag) (l .inv .3) (later (c .before .before .before .before .before .before .before .before .before .before .before .before .before .before .before .before .before .before .before .before .before .before .before .args .from) (joined (c .before .before .before .before .before .before .before .before .before .before .before .before .before .before .before .before .release .result) (c .before .before .before .before .before .before .before .before .before .before .before .before .before .before .before .before .before .before .before .before .before .before .before .args .regs .now))) (later (l .lag) (joined (l .t) (l .regs))) (c .before .before .before .before .before .before .before .before .before .before .before .before .before .before .before .before .before .before .before .before .before .before .before .args .memory .now) (c .before .before .before .before .before .before .before .before .before .before .before .before .before .before .before .before .before .before .before .before .before .before .before .args .pages .now) (c .before .before .before .before .before .before .before .before .before .before .before .before .before .before .before .before .before .before .before .before .before .before .before .args .ports .now) (l .memory) (l .pages) (l .ports) (l .inv .12) (c .before .before .before .before .before .before .before .before .before .before .instruct .result .lagging) (c .before .before .before .before .before .before .before .before .before .before .instruct .result .core) _ _ _ _ (c .before .before .before .before .before .before .before .before .before .before .instruct .ensures .0) (z .lags y) (s .hold-kept ∙ l .inv .8) (rw (chosen-settled _ _ s (l .regs) _) (l .inv .10 (c .if2 .left))) (calm-fewer _ _ _ (omega (arith, c .if2 .left, l .inv .5)) (calm-same _ _ _ w (l .inv .9))))
+loop-again c = let l = c .before .before .before .before .before .before .before .before .before .before .before .before .before .before .before .loop in let y = not-false (c .before .before .before .before .before .before .before .before .before .before .instruct .result .settled) (c .before .if1 .left) in let z = c .before .before .before .before .before .before .before .before .before .before .instruct .ensures .1 in let d = z .choice-kept y in (c .before .before .before .before .before .before .before .before .before .before .instruct .kept .1 .1 .1 .1 .0 ∙ l .inv .0, c .before .before .before .before .before .before .before .before .before .before .instruct .kept .1 .1 .1 .1 .1 .0 ∙ l .inv .1, c .before .before .before .before .before .before .before .before .before .before .instruct .kept .1 .1 .1 .1 .1 .1 .0 ∙ l .inv .2, omega (arith, l .inv .3), c .if2 .left, l .inv .5, l .inv .6 ∙ sym (d .key-kept), l .inv .7 ∙ sym (d .group-kept), d .hold-kept ∙ l .inv .8, λ h. rw (chosen-settled _ _ d) (l .inv .9 (c .if2 .left)), λ s q. row-on mil1750 s (c .before .before .before .before .before .before .before .before .before .before .before .before .before .before .before .before .before .before .before .before .before .before .before .args .from) (l .lag) (l .inv .3) _ _ (c .before .before .before .before .before .before .before .before .before .before .before .before .before .before .before .before .before .before .before .before .before .before .before .args .regs .now) (c .before .before .before .before .before .before .before .before .before .before .before .before .before .before .before .before .before .before .before .before .before .before .before .args .memory .now) (c .before .before .before .before .before .before .before .before .before .before .before .before .before .before .before .before .before .before .before .before .before .before .before .args .pages .now) (c .before .before .before .before .before .before .before .before .before .before .before .before .before .before .before .before .before .before .before .before .before .before .before .args .ports .now) (l .regs) (l .memory) (l .pages) (l .ports) (l .inv .10 s q) (c .before .before .before .before .before .before .before .before .before .before .instruct .result) _ _ _ _ (c .before .before .before .before .before .before .before .before .before .before .instruct .ensures .0 (withClock s (later (l .lag) (s .clock)))) (z .all-done y) (d .hold-kept ∙ l .inv .8) (rw (chosen-settled _ _ d) (l .inv .9 (c .if2 .left))) (calm-fewer _ _ _ (omega (arith, c .if2 .left, l .inv .5)) q))
 
 pub obey-spec : {M : Type 1} → statement M
 obey-spec =

@@ -1,9 +1,9 @@
--- Written by tools/prove.py from answers/steps.py: answer 9a84abb7275c, proof a895969aa406.
+-- Written by tools/prove.py from answers/steps.py: answer 1a12744d301a, proof 934dc37908da.
 -- `steps::turn` meets its contract. Assumes nothing.
 use Rattle.clock.specs.Later.{later}
 use Rattle.isa.specs.Mil1750.{mil1750}
-use Rattle.machine.specs.Machine.{machine}
-use Rattle.machine.specs.State.{joined}
+use Rattle.machine.specs.State.{withClock}
+use Rattle.moved.proofs.MovedLaws.{timer-none}
 use Rattle.steps.proofs.StepLaws.{entry-made}
 use Rattle.steps.proofs.turn.Statement.{statement}
 use Rattle.steps.proofs.turn.Tie as tie
@@ -12,10 +12,10 @@ use mathlib.Core.Path.{refl}
 use native.Mathlib.Omega.{arith}
 
 returns : tie.Need-returns
-returns c = record { onward = omega arith; within = omega (arith, c .before .before .before .before .before .before .before .before .before .before .pre .3); time-kept = λ h. c .before .before .interrupted .ensures .1; made = entry-made mil1750 (machine (later (c .before .before .before .before .before .before .before .before .before .before .args .lag) (joined (c .before .before .before .before .before .before .before .before .before .before .args .core) (c .before .before .before .before .before .before .before .before .before .before .args .regs .now))) (c .before .before .before .before .before .before .before .before .before .before .args .memory .now) (c .before .before .before .before .before .before .before .before .before .before .args .pages .now) (c .before .before .before .before .before .before .before .before .before .before .args .ports .now)) _ (c .before .before .before .before .before .before .before .before .before .before .args .lag) (c .before .before .before .before .before .before .choose .ensures (later (c .before .before .before .before .before .before .before .before .before .before .args .lag) (joined (c .before .before .before .before .before .before .before .before .before .before .args .core) (c .before .before .before .before .before .before .before .before .before .before .args .regs .now))) refl refl refl refl) (c .before .before .before .before .before .if1 .taken) (joined (c .before .before .interrupted .result) (c .before .before .before .before .before .before .before .before .before .before .args .regs .now)) _ _ _ (c .before .before .interrupted .ensures .0 (c .before .before .before .before .before .before .before .before .before .before .args .lag) (c .before .before .before .before .before .before .before .before .before .before .args .regs .now) (c .before .before .before .before .before .before .before .before .before .before .args .ports .now)) }
+returns c = record { onward = omega arith; within = omega (arith, c .before .before .before .before .before .before .before .before .before .before .pre .3); made = λ s q k. rw (timer-none _ _) (entry-made mil1750 s _ (c .before .before .before .before .before .before .before .before .before .before .args .lag) _ _ (c .before .before .before .before .before .before .before .before .before .before .args .regs .now) (c .before .before .before .before .before .before .before .before .before .before .args .memory .now) (c .before .before .before .before .before .before .before .before .before .before .args .pages .now) (c .before .before .before .before .before .before .before .before .before .before .args .ports .now) _ (c .before .before .before .before .before .before .choose .ensures (c .before .before .before .before .before .before .before .before .before .before .args .core) refl refl refl refl) (c .before .before .before .before .before .if1 .taken) (c .before .before .interrupted .ensures (withClock s (later (c .before .before .before .before .before .before .before .before .before .before .args .lag) (s .clock))) (c .before .before .before .before .before .before .before .before .before .before .args .regs .now) (c .before .before .before .before .before .before .before .before .before .before .args .ports .now)) k) }
 
 obey-requires : tie.Need-obey-requires
-obey-requires c κs = (c .before .before .before .before .before .before .before .before .before .pre .0, c .before .before .before .before .before .before .before .before .before .pre .1, c .before .before .before .before .before .before .before .before .before .pre .2, c .before .before .before .before .before .before .before .before .before .pre .3, c .before .before .before .before .before .before .before .before .before .pre .4, rw (← c .before .before .before .before .before .choose .ensures (joined (c .before .before .before .before .before .before .before .before .before .args .core) (c .before .before .before .before .before .before .before .before .before .args .regs .now)) refl refl refl refl) (c .before .before .before .before .if1 .left))
+obey-requires c κs = (c .before .before .before .before .before .before .before .before .before .pre .0, c .before .before .before .before .before .before .before .before .before .pre .1, c .before .before .before .before .before .before .before .before .before .pre .2, c .before .before .before .before .before .before .before .before .before .pre .3, rw (← c .before .before .before .before .before .choose .ensures (c .before .before .before .before .before .before .before .before .before .args .core) refl refl refl refl) (c .before .before .before .before .if1 .left))
 
 returns-2 : tie.Need-returns-2
 returns-2 c = c .before .before .before .before .before .before .obey .ensures

@@ -1,8 +1,8 @@
--- Written by tools/prove.py from answers/system.py: answer 8ba13d812c86, proof 48e3379a90ed.
+-- Written by tools/prove.py from answers/system.py: answer 4baf25ec2f95, proof 0f72bbaafe0c.
 -- `system::call` meets its contract. Assumes nothing.
 use Rattle.entry.proofs.EntryLaws.{entered-by}
 use Rattle.machine.specs.Entries.{arrived}
-use Rattle.machine.specs.State.{joined, withIc, withSw, withMk, withPi, withFt, withEnabled, advanced}
+use Rattle.machine.specs.State.{joined, withProcessor, withIc, withSw, withMk, withPi, withFt, withEnabled, advanced}
 use Rattle.machine.specs.Step.{perform}
 use Rattle.system.proofs.call.Statement.{statement}
 use Rattle.system.proofs.call.Tie as tie
@@ -11,7 +11,7 @@ use mathlib.Core.Path.{refl}
 
 returns : tie.Need-returns
 unfolding perform arrived withIc withSw withMk withPi withFt withEnabled advanced
-returns c = λ regs ports. rw (← c .before .before .before .before .before .before .call-vector .ensures, ← c .before .before .before .before .before .advance .ensures) (entered-by (withIc (joined (c .before .before .before .before .before .before .before .before .before .before .args .core) regs) (c .before .before .before .before .before .advance .result)) _ (c .before .before .before .before .before .before .before .before .before .before .args .memory .now) _ (c .before .before .before .before .before .before .before .before .before .before .args .pages .now) ports 5 _ _ (c .before .before .before .link .ensures (c .before .before .before .before .before .before .call-vector .result) refl refl .0) (c .before .before .before .link .ensures (c .before .before .before .before .before .before .call-vector .result) refl refl .1 (withIc (joined (c .before .before .before .before .before .before .before .before .before .before .args .core) regs) (c .before .before .before .before .before .advance .result)) refl refl refl) (c .arrive .ensures regs))
+returns c = λ s regs ports. rw (← c .before .before .before .before .before .before .call-vector .ensures, ← c .before .before .before .before .before .advance .ensures) (entered-by (withProcessor s (joined (c .before .before .before .before .before .before .before .before .before .before .args .core) regs)) (withIc (c .before .before .before .before .before .before .before .before .before .before .args .core) (c .before .before .before .before .before .advance .result)) _ (c .before .before .before .before .before .before .before .before .before .before .args .memory .now) _ (c .before .before .before .before .before .before .before .before .before .before .args .pages .now) ports 5 _ _ (c .before .before .before .link .ensures (c .before .before .before .before .before .before .call-vector .result) refl refl .0) (c .before .before .before .link .ensures (c .before .before .before .before .before .before .call-vector .result) refl refl .1 (withIc (c .before .before .before .before .before .before .before .before .before .before .args .core) (c .before .before .before .before .before .advance .result)) refl refl refl) (c .arrive .ensures))
 
 pub call-spec : {M : Type 1} → statement M
 call-spec =

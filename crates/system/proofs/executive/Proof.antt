@@ -1,20 +1,19 @@
--- Written by tools/prove.py from answers/system.py: answer 160d3f117dbf, proof d741f8a972a2.
+-- Written by tools/prove.py from answers/system.py: answer da071c2ff35d, proof 435dde7d180a.
 -- `system::executive` meets its contract. Assumes nothing.
-use Rattle.clock.specs.Later.{later}
-use Rattle.machine.specs.State.{joined}
-use Rattle.moved.proofs.TimeLaws.{unsettled-lasting, call-unseen}
+use Rattle.machine.specs.State.{joined, withProcessor}
+use Rattle.moved.proofs.MovedLaws.{timer-none, unsettled-lasting}
 use Rattle.system.proofs.SystemLaws.{bex-carried}
 use Rattle.system.proofs.executive.Statement.{statement}
 use Rattle.system.proofs.executive.Tie as tie
 use borrow.Author.Needs.{needs}
-use mathlib.Core.List.{[]}
+use mathlib.Core.Path.{refl}
 use native.Mathlib.Omega.{arith}
 
 call-requires : tie.Need-call-requires
 call-requires c κs = (c .before .before .before .before .pre .0, omega arith)
 
 returns : tie.Need-returns
-returns c = (λ lag regs ports. rw (c .unsettled .ensures .1, c .unsettled .ensures .0, ← bex-carried (later lag (joined (c .before .before .before .before .before .before .before .before .args .core) regs)) (c .before .before .before .before .before .before .before .before .args .memory .now) (c .before .before .before .before .before .before .before .before .args .pages .now) ports (c .before .before .before .before .before .before .before .before .args .n) (c .before .before .before .before .before .before .before .before .pre .1)) (call-unseen _ _ regs (c .before .before .before .before .before .before .before .before .args .memory .now) (c .before .before .before .before .before .before .before .before .args .pages .now) ports _ _ (c .before .before .before .call .ensures regs ports) .0 lag), unsettled-lasting _ _ (c .unsettled .ensures .2) (λ h. rw (c .unsettled .ensures .0) (call-unseen _ _ [] (c .before .before .before .before .before .before .before .before .args .memory .now) (c .before .before .before .before .before .before .before .before .args .pages .now) [] _ _ (c .before .before .before .call .ensures [] []) .1)))
+returns c = λ regs ports. (λ s. rw (c .unsettled .ensures, timer-none _ _, ← bex-carried (withProcessor s (joined (c .before .before .before .before .before .before .before .before .args .core) regs)) (c .before .before .before .before .before .before .before .before .args .memory .now) (c .before .before .before .before .before .before .before .before .args .pages .now) ports (c .before .before .before .before .before .before .before .before .args .n) (c .before .before .before .before .before .before .before .before .pre .1)) (c .before .before .before .call .ensures s regs ports), rw (c .unsettled .ensures) (unsettled-lasting _ _ refl))
 
 pub executive-spec : {M : Type 1} → statement M
 executive-spec = tie.close (tie.spec call-requires (λ c κs. search needs) (λ c. search needs) returns)

@@ -1,4 +1,4 @@
--- Written by tools/prove.py from answers/clock.py: answer 2bcddb9be51a, proof 3ff5c6ad7d28.
+-- Written by tools/prove.py from answers/clock.py: answer 7468bfd0a96c, proof 041327df3329.
 -- `clock::later::tick_by` meets its contract. Assumes nothing.
 use Rattle.clock.proofs.later.tick_by.Statement.{statement}
 use Rattle.clock.proofs.later.tick_by.Tie as tie
@@ -18,7 +18,7 @@ raised-requires-2 : tie.Need-raised-requires-2
 raised-requires-2 c κs = λ e. omega (arith, c .before .before .before .pre .b-inside e)
 
 returns : tie.Need-returns
-returns c = λ regs. rw (← c .before .raised .ensures, ← c .raised2 .ensures) refl
+returns c = rw (← c .before .raised .ensures, ← c .raised2 .ensures) refl
 
 pub tick-by-spec : {M : Type 1} → statement M
 tick-by-spec = tie.close (tie.spec add-count sub-tens raised-requires raised-requires-2 returns)
