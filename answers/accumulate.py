@@ -1,6 +1,7 @@
 # The answers from which the proofs of the crate `accumulate` are written.
 FIXED = 'Rattle.fixed.specs.Fixed.'
 WAYS = 'Rattle.accumulate.specs.Ways.'
+ENDED = 'Rattle.accumulate.specs.Ended.{endedCore}'
 WAY_LAWS = 'Rattle.accumulate.proofs.WayLaws.'
 END_LAWS = 'Rattle.accumulate.proofs.EndLaws.'
 OF = '(@Start .pre .4)'
@@ -20,11 +21,11 @@ def reading(way, width, place, calls, given, after):
     effect = '(%sOutcome (contextOf %s) (@args .n) %s %s)' % (name, PLAIN, place, outcome)
     told = 'let o : @combine%d .result ≡ %s %s = rw (%s) (@combine%d .ensures) in ' % (width, name, outcome, calls, width)
     first = 'let w = words-first %s (@if1 .taken) in ' % read
-    processor = ('%s-after (@args .core) (@done .result .core) %s (@args .n) %s _ _ _ %s (@done .ensures .1) (@following .ensures) (ap (λ r. r .cs) o) '
+    processor = ('%s-after (@args .core) (endedCore (@args .core) (@done .result)) %s (@args .n) %s _ _ _ %s (@done .ensures .1) (@following .ensures) (ap (λ r. r .cs) o) '
                  '(@fixed-overflow .ensures ∙ ap (λ r. fixedOverflow (r .overflow)) o) _ (%s)' % (name, REGS, place, outcome, after))
     found = ' '.join('(w .%s-is)' % part for part in ('first', 'second')[:way])
     return {'use': [EQUATIONS, OMEGA, WAY_LAWS + '{way-user, way-reads, way-writes, way-count, %sd, does-%s}' % (name, name), END_LAWS + '{words-first, read-done, read-refused, %s-after}' % name,
-                    STATE + '{joined}', ISA + '{contextOf}', FIXED + '{%s}' % name, ACCESSES + '{atOperand}', 'Rattle.isa.specs.Integers.{%sOutcome}' % name,
+                    STATE + '{joined}', ENDED, ISA + '{contextOf}', FIXED + '{%s}' % name, ACCESSES + '{atOperand}', 'Rattle.isa.specs.Integers.{%sOutcome}' % name,
                     EFFECTS + '{fixedOverflow}', FIELDS + '{withRegister}', ADDRESSING + '{accumulator}'],
             'unf': {'*': 'atOperand contextOf ' + name},
             'read-operand-requires': '(@Start .pre .0, @Start .pre .3, @Start .pre .5, omega (arith, %s))' % OF,
@@ -38,6 +39,7 @@ TWO = 'ap (λ %s. withRegister (withRegister ' + REGS + ' (%s) (%s)) (%s + 1) (%
 FIRST, VALUE = '@target-of .result', '(@combine32 .result .value)'
 
 A = {
+    'finish/refused': by(STATE + ' withPi withSw withIc', returns='(refl, refl, refl)'),
     'finish/done': by(STEP + ' affected', STATE + ' withPi withSw withIc', returns='(refl, λ regs e i j k. rw (i, j, k, ← @with-cs .ensures) refl)'),
     'operand/read_operand': by(ACCESSES + ' atOperand', use=[OMEGA, WAY_LAWS + '{way-counted}'], gather_requires='(@Start .pre .0, @Start .pre .1, @read-count .ensures .1)',
         returns='λ k e. rw (way-counted (@args .n) (@Start .pre .3) _ (@read-count .ensures .0) k e) (@gather .ensures)'),

@@ -8,7 +8,6 @@ LAWS = 'Rattle.command.proofs.CommandLaws.{unlisted, past-outputs, same
 OUTPUTS = '0x2000 0x2001 0x2002 0x2003 0x2004 0x2005 0x200E'
 INPUTS = '0xA000 0xA004 0xA00E 0xA00F'
 CALLS = ['set-mask', 'set-pending', 'set-enabled', 'set-enabled2', 'reset-pending', 'hold-pending', 'set-status']
-TIMERS = '0x4008 0x4009 0x400A 0x400C 0x400D 0x400E 0xC00A 0xC00E'
 OPENED = COMMANDS + ' coreCommand becomes'
 
 
@@ -41,10 +40,10 @@ A = {
     'timers/is_timer': by(COMMANDS + ' isTimer', use=[TESTS], arms='@arm', returns_9='rw (%s) refl' % others(8)),
     'timers/set_timer_a': by(STATE + ' withTa withTaOn', returns='refl'),
     'timers/set_timer_b': by(STATE + ' withTb withTbOn', returns='refl'),
-    'timers/time': by(COMMANDS + ' timerCommand', STATE + ' withTa withTb withTaOn withTbOn', use=[LISTS, OTHERWISE, STATE + '{joined, withProcessor, withClock}'],
+    'timers/time': by(COMMANDS + ' timerCommand', STATE + ' withTa withTb withTaOn withTbOn', use=[COMMANDS + '{timerRules}', OTHERWISE, STATE + '{joined, withProcessor, withClock}'],
         returns=timed(1, 'set-timer-a'), returns_2=timed(2, 'set-timer-a2'), returns_3=timed(3, 'set-timer-a3', ', ← @get .ensures'),
         returns_4=timed(4, 'set-timer-b'), returns_5=timed(5, 'set-timer-b2'), returns_6=timed(6, 'set-timer-b3', ', ← @get2 .ensures'),
-        returns_7=told(7, 'put'), returns_8=told(8, 'put2'), returns_9='λ s core. sym (%s)' % rest('(@args .command)', TIMERS)),
+        returns_7=told(7, 'put'), returns_8=told(8, 'put2'), returns_9='λ s core. sym (ap (λ f. f (withClock (withProcessor s (joined core (@args .regs .now))) (@args .clock)) (@args .k)) (otherwise (@args .command) timerRules _ (@match .rest)))'),
     'xio/core_output': by(OPENED, OUTCOME + ' governed', use=[LISTS, OTHERWISE, COMPARISONS, NUMBERS, LAWS, STATE + '{joined, withCore, withProcessor, withEnabled, withHold}'],
         **{returns(i + 1): 'λ s regs g o n. rw (@match .keys%d) (ap (λ c. becomes g o (withProcessor s (joined c regs))) (@%s .ensures))' % (i + 1, call) for i, call in enumerate(CALLS)},
         returns_8='λ s regs g o n. sym (%s ∙ unlisted (leb 0x8000) (@args .command) %s _ refl (lt-leb _ _ (@Start .pre)))' % (rest('(@args .command)', OUTPUTS), rules(INPUTS))),

@@ -2,7 +2,7 @@
 COMMANDS = 'Rattle.isa.specs.Commands.'
 
 A = {
-    'resume': by(COMMANDS + ' resumed', STATE + ' withIc advanced', MACHINE + ' nextOf', returns='rw (← @following .ensures) refl'),
+    'resume': by(COMMANDS + ' resumed', STATE + ' withIc', returns='rw (← @following .ensures) refl'),
     'load_status': by(COMMANDS + ' statusLoaded', STATE + ' withIc withSw withMk', returns='refl'),
     'set_mask': by(STATE + ' withMk', returns='refl'),
     'set_status': by(STATE + ' withSw', returns='refl'),

@@ -53,8 +53,8 @@ A = {
         returns_2='rw (ne-eqb _ _ (@if1 .left)) (@field-a .ensures .0)'),
     'store/store_one': {
         'use': [EQUATIONS, OMEGA, WAY_LAWS + '{way-user, way-reads, way-writes, way-stored, way-store, some-words, no-words, does-store}', END_LAWS + '{store-done, store-refused, idle-done}', 'mathlib.Core.Bool.{false, cond}',
-                STATE + '{joined}', ADDRESSING + '{inMemory}', FORMS + '{modeOf}', ISA + '{contextOf}', WAYS + '{wordStored}', EFFECTS + '{effect, stored, following}', FIELDS + '{withRegisters}', MACHINE + '{spanFrom}', LOCATED],
-        'unf': {'*': 'contextOf effect stored following withRegisters'},
+                STATE + '{joined}', ADDRESSING + '{inMemory}', FORMS + '{modeOf}', ISA + '{contextOf}', WAYS + '{wordStored}', EFFECTS + '{effect, stored}', FIELDS + '{withRegisters}', MACHINE + '{spanFrom}', LOCATED],
+        'unf': {'*': 'contextOf effect stored withRegisters'},
         'mul-memory': 'omega (arith, %s)' % inside('place'), 'slice-write-memory': inside('place'), 'write-count-requires': '@Start .pre .5',
         'returns': 'store-done %s _ _ %s _ _ _ (@place .given .1) refl (does-store (@args .n) %s _ _ ∙ ap (λ x. stored %s (@args .n) x 0 0) (sym (@word-stored .ensures))) (@done .ensures .0) %s' % (
             ONE, STORED, OF, CONTEXT, AFTER % ('done', STORED)),
@@ -63,9 +63,9 @@ A = {
             STORE, written(3, 1, SEEN['left']), NOTHING, OF, AFTER % ('done2', NOTHING))},
     'store/store_two': {
         'use': [EQUATIONS, OMEGA, WAY_LAWS + '{way-user, way-reads, way-writes, way-stored, way-store, some-words, no-words, does-pair}', END_LAWS + '{pair-done, pair-refused, idle-done}',
-                'mathlib.Core.Bool.{false, cond}', STATE + '{joined}', ADDRESSING + '{inMemory}', FORMS + '{modeOf}', ISA + '{contextOf}', EFFECTS + '{effect, stored, following}', FIELDS + '{withRegisters, register}',
+                'mathlib.Core.Bool.{false, cond}', STATE + '{joined}', ADDRESSING + '{inMemory}', FORMS + '{modeOf}', ISA + '{contextOf}', EFFECTS + '{effect, stored}', FIELDS + '{withRegisters, register}',
                 ADDRESSING + '{accumulator}', 'Prim.Native.Nat.{_+_}', SPANS + '{wrapped, andThen}', MACHINE + '{spanFrom}', LOCATED],
-        'unf': {'*': 'contextOf effect stored following withRegisters wrapped andThen'},
+        'unf': {'*': 'contextOf effect stored withRegisters wrapped andThen'},
         'put-two-requires': '(%s, %s)' % (inside('first'), inside('second', 'look-up2')), 'write-count-requires': '@Start .pre .5',
         'returns': 'idle-done %s false %s %s _ _ _ (does-pair (@args .n) %s _ _) (@done .ensures .0) %s' % (
             PAIR, written(5, 2, UNSEEN['taken']), HELD, OF, AFTER % ('done', HELD)),
@@ -77,9 +77,9 @@ A = {
         returns_2='rw (ne-eqb _ _ (@if1 .left)) (@branches .ensures)'),
     'branch/branch': {
         'use': [EQUATIONS, OMEGA, WAY_LAWS + '{way-user, way-reads, way-writes, does-branch}', END_LAWS + '{idle-done}', 'mathlib.Core.Bool.{true, false, cond}',
-                STATE + '{csOf, joined}', ISA + '{contextOf}', WAYS + '{isTaken}', EFFECTS + '{effect, jumped, following}', FIELDS + '{withRegisters}',
+                STATE + '{csOf, joined}', ISA + '{contextOf}', WAYS + '{isTaken}', EFFECTS + '{effect, jumped}', FIELDS + '{withRegisters}',
                 ADDRESSING + '{inMemory}', FORMS + '{modeOf}'],
-        'unf': {'*': 'contextOf effect jumped following withRegisters'},
+        'unf': {'*': 'contextOf effect jumped withRegisters'},
         'returns': branched('done', 'true', 'taken', 'refl'), 'returns-2': branched('done2', 'false', 'left', '(sym (@following .ensures))')},
     'direct': {
         'use': [EQUATIONS, OMEGA, 'Rattle.needs.proofs.NumberLaws.{number-way}'],

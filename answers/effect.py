@@ -5,8 +5,8 @@ WORK = 'Rattle.effect.specs.Work.'
 
 # a shape that gives its scalars: the definitions are opened to the effect, calls folded back
 def literal(names, variables, answer):
-    return {'use': [WORK + '{worked, filled}', EFFECTS + '{following, effect, %s}' % names.replace(' ', ', ')],
-            'unf': {'*': 'worked filled following effect ' + names}, 'returns': 'λ %s. rw (%s) refl' % (variables, answer)}
+    return {'use': [WORK + '{worked, filled}', EFFECTS + '{effect, %s}' % names.replace(' ', ', ')],
+            'unf': {'*': 'worked filled effect ' + names}, 'returns': 'λ %s. rw (%s) refl' % (variables, answer)}
 
 
 # a shape that is a case of another: its own definition is opened
@@ -19,7 +19,7 @@ def case(names, variables, calls, last):
 NEXT = '← @following .ensures'
 CS = '← @cs-of .ensures'
 A = {
-    'following': {'use': [SPANS + '{wrapped}'], 'unf': {'*': 'wrapped'}, 'returns': '@wrapping-add-u16 .ensures'},
+    'following': by(SPANS + ' wrapped', MACHINE + ' nextOf', returns='@wrapping-add-u16 .ensures'),
     'cs_of': {'use': [STATE + '{csOf}'], 'unf': {'*': 'csOf'}, 'returns': 'refl'},
     'fixed_overflow': {'use': [EFFECTS + '{fixedOverflow}'], 'unf': {'*': 'fixedOverflow'}, 'returns': 'cc', 'returns-2': 'cc'},
     'float_faults': {'use': [EFFECTS + '{floatFaults}'], 'unf': {'*': 'floatFaults'}, 'returns': 'cc', 'returns-2': 'cc', 'returns-3': 'cc'},

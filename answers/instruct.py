@@ -30,8 +30,8 @@ def became(fact):
     return 'became-worked %s %s ports (@args .n) _ _ _ (%s)' % (AROUND, PAGED, fact)
 
 
-def settled(fact):
-    return 'settled-by (@args .core) _ _ %s _ _ (@weighed .ensures) (%s)' % (REGS, fact)
+def settled(fact, weighed='@weighed .ensures'):
+    return 'settled-by (@args .core) _ _ %s _ _ (%s) (%s)' % (REGS, weighed, fact)
 
 
 WEIGHED, FAILED = '@weighed .ensures, timer-none _ _', '@deny .ensures, timer-none _ _'
@@ -68,8 +68,8 @@ A = {
     'carry_direct': by(STAGES + ' operated', ISA + ' mil1750 contextOf',
         use=[ACT + '{carried-clear, carried-fault, failed}', USER + '{became-worked, settled-by}', STATE + '{joined, withProcessor}', MOVED + '{timer-none, unsettled-lasting}'],
         direct_requires='(@Start .pre .0, @Start .pre .1, @Start .pre .2, @Start .pre .3, @Start .pre .4, @Start .pre .5, @Start .pre .6)',
-        returns='λ ports. (λ s. rw (%s, ← carried-clear %s _ _ _ refl refl refl (%s .admitted), @direct .ensures .by-user) (%s), %s)'
-            % (WEIGHED, CARRIED, DIRECT, became(DIRECT + ' .worked'), settled(DIRECT + ' .worked .processor-is')),
+        returns='λ ports. (λ s. rw (%s, @update .ensures, ← carried-clear %s _ _ _ refl refl refl (%s .admitted), @direct .ensures .by-user) (%s), %s)'
+            % (WEIGHED, CARRIED, DIRECT, became(DIRECT + ' .worked'), settled(DIRECT + ' .worked .processor-is', 'rw (← @update .ensures) (@weighed .ensures)')),
         returns_2='let k = @direct .ensures .when-refused (@if1 .left) in λ ports. (λ s. rw (%s, ← carried-fault %s _ _ _ refl refl refl _ (k .0), ← @advance .ensures, '
             'ap (λ p. p .regs) (k .1)) (%s), %s)' % (FAILED, CARRIED, failed('ports', 'k .2'), DENIED)),
     'proceed': by(STAGES + ' operated', ISA + ' mil1750 contextOf',

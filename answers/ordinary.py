@@ -6,13 +6,13 @@ LAWS = 'Rattle.ordinary.proofs.OrdinaryLaws.'
 # stores
 RANGES = [('bit', 9), ('shift', 23), ('jump', 37), ('load', 44), ('store', 54), ('integer', 59), ('float', 62), ('integer', 67), ('float', 70),
           ('integer', 73), ('float', 75), ('integer', 78), ('float', 80), ('logical', 84), ('float', 88), ('logical', 93), ('float', 95)]
-SEEN = '(context (@args .regs .now) (@args .ic) (@args .sw) (@args .pi)) (@args .n) (@args .x) (@args .y) (@args .z) (operationOf (@args .n .form))'
+SEEN = '(context (@args .regs .now) (@args .sw) (@args .pi)) (@args .n) (@args .x) (@args .y) (@args .z) (operationOf (@args .n .form))'
 
 A = {
     'ordinary': by(use=[OMEGA, LAWS + '{in-range, past-all, jump-left, loads-left, stores-left, integers-left, logic-left}', FORMS + '{operationOf}', WORK + '{context}'],
         returns_22='@nothing .ensures (@args .regs .now) ∙ past-all %s 96 refl (omega arith)' % SEEN),
-    'work': by(STEP + ' affected stored', WORK + ' worked', ISA + ' contextOf', STATE + ' withPi withSw withIc', ordinary_requires='@Start .pre .2',
-        returns='(rw (← @ordinary .ensures, ← @apply .ensures, ← @with-cs .ensures) refl, rw (← @ordinary .ensures) (@store-words .ensures))'),
+    'work': by(STEP + ' affected stored', WORK + ' worked', ISA + ' contextOf', ordinary_requires='@Start .pre .2',
+        returns='(rw (← @ordinary .ensures, ← @apply .ensures, @update .ensures, ← @with-cs .ensures) refl, rw (← @ordinary .ensures) (@store-words .ensures))'),
 }
 
 # what the groups leave out, which has a way

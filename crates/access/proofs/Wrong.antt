@@ -19,7 +19,7 @@ regs = tableOf (λ k. 0x1000 + k) 0 16
 
 -- an instruction by its form, its first word and its address
 abbrev coded : ℕ → ℕ → ℕ → Instruction
-coded form first address = record { form = form; first = first; second = address; address = address }
+coded form first address = record { ic = 0x0100; form = form; first = first; second = address; address = address }
 
 pub rows : List Row
 unfolding pair wrapped instructions

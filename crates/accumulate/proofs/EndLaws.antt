@@ -15,18 +15,18 @@ use Rattle.page.specs.Pages.{lookup}
 use Rattle.page.specs.Spans.{wrapped, putAt, andThen, passed, checkedFrom, checked, wordsOf, writtenFrom, written}
 use Rattle.word.specs.Pair.{highWord, lowWord}
 use Rattle.fixed.specs.Fixed.{Outcome}
-use Rattle.decode.specs.Forms.{lengthOf, modeOf, operationOf}
+use Rattle.decode.specs.Forms.{modeOf, operationOf}
 use Rattle.machine.specs.declared.Core.{Core}
 use Rattle.machine.specs.declared.Instruction.{Instruction}
 use Rattle.machine.specs.declared.Class.the-variants.{User}
 use Rattle.machine.specs.State.{Processor, keyOf, groupOf, joined}
-use Rattle.machine.specs.Machine.{Effect, spanFrom}
+use Rattle.machine.specs.Machine.{Effect, spanFrom, nextOf}
 use Rattle.machine.specs.Instructions.{both}
 use Rattle.machine.specs.Step.{affected, stored}
 use Rattle.isa.specs.Addressing.{inMemory}
 use Rattle.isa.specs.Accesses.{readsOf, writesOf}
 use Rattle.isa.specs.Fields.{withRegister, withRegisters}
-use Rattle.isa.specs.Effects.{following, fixedOverflow, three, effect, result}
+use Rattle.isa.specs.Effects.{fixedOverflow, three, effect, result}
 use Rattle.isa.specs.Integers.{singleOutcome, doubleOutcome}
 use Rattle.isa.specs.Execute.{executed}
 use Rattle.isa.specs.Mil1750.{classOf, contextOf}
@@ -40,14 +40,14 @@ use Rattle.accumulate.specs.Ended.{verdict, operandWords, Ended}
 -- r is a core whose IC and CS are set, and to whose PI bits are added
 module _ (c r : Core) (regs : List ℕ) (n : Instruction) (k ic cs bits : ℕ) (o : Outcome)
     (f : (x : List ℕ) (e : Effect) → e .ic ≡ ic → e .cs ≡ cs → e .pi ≡ bitOr (c .pi) bits → joined r (e .regs) ≡ affected (joined c x) e)
-    (i : ic ≡ wrapped (c .ic + lengthOf (n .form))) (j : cs ≡ o .cs) (b : bits ≡ fixedOverflow (o .overflow)) where
+    (i : ic ≡ nextOf n) (j : cs ≡ o .cs) (b : bits ≡ fixedOverflow (o .overflow)) where
   pub single-after : (after : List ℕ) → after ≡ withRegister regs k (o .value) → joined r after ≡ affected (joined c regs) (singleOutcome (contextOf (joined c regs)) n k o)
-  unfolding singleOutcome result effect following withRegisters contextOf
+  unfolding singleOutcome result effect withRegisters contextOf
   single-after after h = rw h (f regs (singleOutcome (contextOf (joined c regs)) n k o) (sym i) (sym j) (ap (bitOr (c .pi)) (sym b)))
 
   pub double-after : (after : List ℕ) → after ≡ withRegister (withRegister regs k (highWord (o .value))) (k + 1) (lowWord (o .value))
       → joined r after ≡ affected (joined c regs) (doubleOutcome (contextOf (joined c regs)) n k o)
-  unfolding doubleOutcome result effect following withRegisters contextOf
+  unfolding doubleOutcome result effect withRegisters contextOf
   double-after after h = rw h (f regs (doubleOutcome (contextOf (joined c regs)) n k o) (sym i) (sym j) (ap (bitOr (c .pi)) (sym b)))
 
 -- ---- a span of no words, of one, and of two

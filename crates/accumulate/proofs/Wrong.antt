@@ -39,7 +39,7 @@ memory = 5 ∷ 6 ∷ 7 ∷ 8 ∷ []
 
 -- DL with its operand at address 1
 abbrev n : Instruction
-n = record { form = 0x2627; first = 0x8600; second = 1; address = 1 }
+n = record { ic = 0x0100; form = 0x2627; first = 0x8600; second = 1; address = 1 }
 
 abbrev parts : Gathered → List ℕ
 parts r = flag (r .clear) ∷ r .fault ∷ r .x ∷ r .y ∷ r .z ∷ []

@@ -9,13 +9,15 @@ use Rattle.page.specs.declared.Verdict.{Verdict}
 use Rattle.page.specs.declared.Verdict.the-variants.{Fault}
 use Rattle.page.specs.Spans.{checked, wordsOf}
 use Rattle.decode.specs.Forms.{operationOf}
+use Rattle.machine.specs.declared.Core.{Core}
 use Rattle.machine.specs.declared.Instruction.{Instruction}
 use Rattle.machine.specs.declared.Class.the-variants.{User}
-use Rattle.machine.specs.State.{Processor, keyOf, groupOf}
+use Rattle.machine.specs.State.{Processor, keyOf, groupOf, updated}
 use Rattle.machine.specs.Instructions.{both}
 use Rattle.isa.specs.Accesses.{readsOf, writesOf}
 use Rattle.isa.specs.Mil1750.{classOf}
 use Rattle.rearrange.specs.Operation.{Finished}
+use Rattle.accumulate.specs.declared.Ending.{Ending}
 
 -- the verdict on all accesses of the instruction n, from the processor p, in the memory m through the page registers g
 abbrev pub verdict : Processor → List ℕ → List ℕ → Instruction → Verdict
@@ -33,3 +35,7 @@ pub record Ended (p : Processor) (m g : List ℕ) (n : Instruction) (clear : Boo
   pub by-user : classOf (operationOf (n .form)) ≡ User
   pub when-clear : clear ≡ true → Finished p m g n q w
   pub when-refused : clear ≡ false → (verdict p m g n ≡ Fault fault) × (q ≡ p) × (w ≡ m)
+
+-- the core with IC, SW and PI of an ending
+abbrev pub endedCore : Core → Ending → Core
+endedCore c e = updated c (e .ic) (e .sw) (e .pi)

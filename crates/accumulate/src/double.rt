@@ -7,7 +7,7 @@ ghost use Rattle.decode.specs.Forms.{operationOf};
 ghost use Rattle.machine.specs.State.{keyOf, groupOf, joined};
 ghost use Rattle.needs.specs.Needs.{wayOf, numberOf};
 ghost use Rattle.accumulate.specs.Ways.{plain, intoDouble, target};
-ghost use Rattle.accumulate.specs.Ended.{Ended};
+ghost use Rattle.accumulate.specs.Ended.{Ended, endedCore};
 use crate::Ending;
 use crate::finish::done;
 use crate::finish::refused;
@@ -74,7 +74,7 @@ pub fn into_double(
 ) -> Ending
     requires { ⌜ (length (now pages) ≡ 512) × (key ≡ keyOf (core .sw)) × (group ≡ groupOf (core .sw)) × (group < 16) × (wayOf (operationOf (n .form)) ≡ 2)
         × (number ≡ numberOf (n .form)) ⌝ }
-    ensures { λ r. ⌜ Ended (joined core (now (regs .entry))) (now (memory .entry)) (now (pages .entry)) n (r .clear) (r .fault) (joined (r .core) (now (regs .exit))) (now (memory .entry)) ⌝ }
+    ensures { λ r. ⌜ Ended (joined core (now (regs .entry))) (now (memory .entry)) (now (pages .entry)) n (r .clear) (r .fault) (joined (endedCore core r) (now (regs .exit))) (now (memory .entry)) ⌝ }
 {
     let g = read_operand(key, group, memory, pages, n, number);
     if g.clear {
@@ -84,7 +84,7 @@ pub fn into_double(
         put(regs, k, high(d.value));
         put(regs, k + 1, low(d.value));
         let bits = fixed_overflow(d.overflow);
-        return done(core, following(core.ic, n.form), d.cs, bits);
+        return done(core, following(n), d.cs, bits);
     }
     refused(core, g.fault)
 }

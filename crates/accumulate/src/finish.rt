@@ -7,6 +7,7 @@ ghost use lib.Bits.{bitOr};
 ghost use Rattle.machine.specs.State.{joined};
 ghost use Rattle.machine.specs.Machine.{Effect};
 ghost use Rattle.machine.specs.Step.{affected};
+ghost use Rattle.accumulate.specs.Ended.{endedCore};
 use crate::Ending;
 use machine::Core;
 use status_word::with_cs;
@@ -14,26 +15,26 @@ use status_word::with_cs;
 // It is done: IC and CS are set and PI bits added, as by any effect that does so, whatever the registers were.
 pub fn done(core: Core, ic: u16, cs: u16, bits: u16) -> Ending
     ensures { λ r. ⌜ (r .clear ≡ true) × ((regs : List ℕ) (e : Effect) → e .ic ≡ ic → e .cs ≡ cs → e .pi ≡ bitOr (core .pi) bits
-        → joined (r .core) (e .regs) ≡ affected (joined core regs) e) ⌝ }
+        → joined (endedCore core r) (e .regs) ≡ affected (joined core regs) e) ⌝ }
 {
-    let mut t = core;
-    t.ic = ic;
-    t.sw = with_cs(core.sw, cs);
-    t.pi = core.pi | bits;
     Ending {
         clear: true,
         fault: 0,
-        core: t,
+        ic,
+        sw: with_cs(core.sw, cs),
+        pi: core.pi | bits,
     }
 }
 
 // It is refused, with the FT bit b; the core is as it was.
 pub fn refused(core: Core, b: u16) -> Ending
-    ensures { λ r. ⌜ (r .clear ≡ false) × (r .fault ≡ b) × (r .core ≡ core) ⌝ }
+    ensures { λ r. ⌜ (r .clear ≡ false) × (r .fault ≡ b) × (endedCore core r ≡ core) ⌝ }
 {
     Ending {
         clear: false,
         fault: b,
-        core,
+        ic: core.ic,
+        sw: core.sw,
+        pi: core.pi,
     }
 }

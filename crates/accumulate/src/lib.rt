@@ -5,11 +5,11 @@ pub mod finish;
 pub mod operand;
 pub mod single;
 
-use machine::Core;
-
-// The core after an operation, where its accesses were clear; else the core as it was, and the FT bit of the first refusal.
+// IC, SW and PI after an operation, where its accesses were clear; else as they were, and the FT bit of the first refusal.
 pub struct Ending {
     pub clear: bool,
     pub fault: u16,
-    pub core: Core,
+    pub ic: u16,
+    pub sw: u16,
+    pub pi: u16,
 }

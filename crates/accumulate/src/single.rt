@@ -7,7 +7,7 @@ ghost use Rattle.decode.specs.Forms.{operationOf};
 ghost use Rattle.machine.specs.State.{keyOf, groupOf, joined};
 ghost use Rattle.needs.specs.Needs.{wayOf, numberOf};
 ghost use Rattle.accumulate.specs.Ways.{plain, intoSingle};
-ghost use Rattle.accumulate.specs.Ended.{Ended};
+ghost use Rattle.accumulate.specs.Ended.{Ended, endedCore};
 use crate::Ending;
 use crate::finish::done;
 use crate::finish::refused;
@@ -64,7 +64,7 @@ pub fn into_single(
 ) -> Ending
     requires { ⌜ (length (now pages) ≡ 512) × (key ≡ keyOf (core .sw)) × (group ≡ groupOf (core .sw)) × (group < 16) × (wayOf (operationOf (n .form)) ≡ 1)
         × (number ≡ numberOf (n .form)) ⌝ }
-    ensures { λ r. ⌜ Ended (joined core (now (regs .entry))) (now (memory .entry)) (now (pages .entry)) n (r .clear) (r .fault) (joined (r .core) (now (regs .exit))) (now (memory .entry)) ⌝ }
+    ensures { λ r. ⌜ Ended (joined core (now (regs .entry))) (now (memory .entry)) (now (pages .entry)) n (r .clear) (r .fault) (joined (endedCore core r) (now (regs .exit))) (now (memory .entry)) ⌝ }
 {
     let g = read_operand(key, group, memory, pages, n, number);
     if g.clear {
@@ -72,7 +72,7 @@ pub fn into_single(
         let s = combine16(n.form % 256, get(regs, k), operand_of(regs, n, g.x));
         put(regs, k, s.value);
         let bits = fixed_overflow(s.overflow);
-        return done(core, following(core.ic, n.form), s.cs, bits);
+        return done(core, following(n), s.cs, bits);
     }
     refused(core, g.fault)
 }

@@ -28,7 +28,7 @@ g = replicate 512 0
 
 -- STM of R0 to R2 from address 1 on
 abbrev n : Instruction
-n = record { form = 0x2632; first = 0x9920; second = 1; address = 1 }
+n = record { ic = 0x0100; form = 0x2632; first = 0x9920; second = 1; address = 1 }
 
 pub rows : List Row
 unfolding words machinery instructions

@@ -21,7 +21,7 @@ s = stateAt (0 ∷ 7 ∷ replicate 14 0) 0x00FF 0
 
 -- XIO R1 with the command WOPR of page register 2
 abbrev n : Instruction
-n = record { form = 0x2801; first = 0x4810; second = 0x5202; address = 0x5202 }
+n = record { ic = 0x00FF; form = 0x2801; first = 0x4810; second = 0x5202; address = 0x5202 }
 
 -- IC, and the page registers 2, 257 and 258; the FT bit of a refusal
 abbrev shown : Supervised → List ℕ

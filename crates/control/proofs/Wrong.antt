@@ -15,7 +15,7 @@ c = record { ic = 0x00FF; sw = 0x2031; mk = 0x00FF; pi = 0x4400; ft = 0x0080; en
 
 -- LST, of two words
 abbrev n : Instruction
-n = record { form = 0x2623; first = 0x7D00; second = 1; address = 1 }
+n = record { ic = 0x00FF; form = 0x2623; first = 0x7D00; second = 1; address = 1 }
 
 -- MK, SW and IC
 abbrev status : Core → List ℕ

@@ -13,7 +13,7 @@ pub fn resume(core: Core, n: Instruction) -> Core
     ensures { λ r. ⌜ r ≡ resumed core n ⌝ }
 {
     let mut t = core;
-    t.ic = effect::following(core.ic, n.form);
+    t.ic = effect::following(n);
     t
 }
 

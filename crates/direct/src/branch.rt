@@ -6,7 +6,7 @@ ghost use Rattle.decode.specs.Forms.{operationOf};
 ghost use Rattle.machine.specs.State.{joined};
 ghost use Rattle.needs.specs.Needs.{wayOf};
 ghost use Rattle.accumulate.specs.Ways.{isTaken};
-ghost use Rattle.accumulate.specs.Ended.{Ended};
+ghost use Rattle.accumulate.specs.Ended.{Ended, endedCore};
 use access::fields::field_a;
 use accumulate::Ending;
 use accumulate::finish::done;
@@ -31,11 +31,11 @@ fn is_taken(n: Instruction, cs: u16) -> bool
 // The operation of the instruction n, whose way is 4, with any registers, memory and page registers.
 pub(crate) fn branch(core: Core, n: Instruction) -> Ending
     requires { ⌜ wayOf (operationOf (n .form)) ≡ 4 ⌝ }
-    ensures { λ r. ⌜ ((regs memory pages : List ℕ) → Ended (joined core regs) memory pages n (r .clear) (r .fault) (joined (r .core) regs) memory) ⌝ }
+    ensures { λ r. ⌜ ((regs memory pages : List ℕ) → Ended (joined core regs) memory pages n (r .clear) (r .fault) (joined (endedCore core r) regs) memory) ⌝ }
 {
     let cs = cs_of(core.sw);
     if is_taken(n, cs) {
         return done(core, n.address, cs, 0);
     }
-    done(core, following(core.ic, n.form), cs, 0)
+    done(core, following(n), cs, 0)
 }

@@ -5,7 +5,7 @@ ghost use Prim.Native.Nat.{_<_, _≤_};
 ghost use lib.ListN.{length};
 ghost use Rattle.machine.specs.State.{keyOf, groupOf, joined};
 ghost use Rattle.needs.specs.Needs.{numberOf};
-ghost use Rattle.accumulate.specs.Ended.{Ended};
+ghost use Rattle.accumulate.specs.Ended.{Ended, endedCore};
 use crate::branch::branch;
 use crate::store::store_one;
 use crate::store::store_two;
@@ -30,7 +30,7 @@ pub fn direct(
     number: u32,
 ) -> Ending
     requires { ⌜ (length (now pages) ≡ 512) × (key ≡ keyOf (core .sw)) × (group ≡ groupOf (core .sw)) × (group < 16) × (number ≡ numberOf (n .form)) × (0x0080_0000 ≤ number) × (number < 0x0300_0000) ⌝ }
-    ensures { λ r. ⌜ Ended (joined core (now (regs .entry))) (now (memory .entry)) (now (pages .entry)) n (r .clear) (r .fault) (joined (r .core) (now (regs .exit))) (now (memory .exit)) ⌝ }
+    ensures { λ r. ⌜ Ended (joined core (now (regs .entry))) (now (memory .entry)) (now (pages .entry)) n (r .clear) (r .fault) (joined (endedCore core r) (now (regs .exit))) (now (memory .exit)) ⌝ }
 {
     match number {
         // L A S OR AND, from 0x0080_0000 on

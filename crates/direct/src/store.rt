@@ -6,7 +6,7 @@ ghost use Rattle.decode.specs.Forms.{operationOf};
 ghost use Rattle.machine.specs.State.{keyOf, groupOf, joined};
 ghost use Rattle.needs.specs.Needs.{wayOf, numberOf};
 ghost use Rattle.accumulate.specs.Ways.{wordStored};
-ghost use Rattle.accumulate.specs.Ended.{Ended};
+ghost use Rattle.accumulate.specs.Ended.{Ended, endedCore};
 use access::addressing::accumulator_of;
 use access::fields::field_a;
 use access::fields::get;
@@ -46,9 +46,9 @@ pub(crate) fn store_one(
 ) -> Ending
     requires { ⌜ (length (now pages) ≡ 512) × (key ≡ keyOf (core .sw)) × (group ≡ groupOf (core .sw)) × (group < 16) × (wayOf (operationOf (n .form)) ≡ 3)
         × (number ≡ numberOf (n .form)) ⌝ }
-    ensures { λ r. ⌜ Ended (joined core (now (regs .entry))) (now (memory .entry)) (now (pages .entry)) n (r .clear) (r .fault) (joined (r .core) (now (regs .entry))) (now (memory .exit)) ⌝ }
+    ensures { λ r. ⌜ Ended (joined core (now (regs .entry))) (now (memory .entry)) (now (pages .entry)) n (r .clear) (r .fault) (joined (endedCore core r) (now (regs .entry))) (now (memory .exit)) ⌝ }
 {
-    let next = following(core.ic, n.form);
+    let next = following(n);
     let cs = cs_of(core.sw);
     if 0 < write_count(n, number) {
         let x = word_stored(regs, n);
@@ -88,9 +88,9 @@ pub(crate) fn store_two(
 ) -> Ending
     requires { ⌜ (length (now pages) ≡ 512) × (key ≡ keyOf (core .sw)) × (group ≡ groupOf (core .sw)) × (group < 16) × (wayOf (operationOf (n .form)) ≡ 5)
         × (number ≡ numberOf (n .form)) ⌝ }
-    ensures { λ r. ⌜ Ended (joined core (now (regs .entry))) (now (memory .entry)) (now (pages .entry)) n (r .clear) (r .fault) (joined (r .core) (now (regs .entry))) (now (memory .exit)) ⌝ }
+    ensures { λ r. ⌜ Ended (joined core (now (regs .entry))) (now (memory .entry)) (now (pages .entry)) n (r .clear) (r .fault) (joined (endedCore core r) (now (regs .entry))) (now (memory .exit)) ⌝ }
 {
-    let next = following(core.ic, n.form);
+    let next = following(n);
     let cs = cs_of(core.sw);
     if write_count(n, number) == 0 {
         return done(core, next, cs, 0);

@@ -9,10 +9,9 @@ use Rattle.choice.proofs.Rows.{Row, one, some, hold}
 use Rattle.word.specs.Pair.{highWord, lowWord}
 use Rattle.word.specs.Status.{status}
 use Rattle.page.specs.Spans.{wrapped}
-use Rattle.decode.specs.Forms.{lengthOf}
 use Rattle.machine.specs.declared.Instruction.{Instruction}
 use Rattle.machine.specs.State.{csOf}
-use Rattle.machine.specs.Machine.{Effect}
+use Rattle.machine.specs.Machine.{Effect, nextOf}
 use Rattle.isa.specs.Effects.{Context, fixedOverflow, floatFaults, result, single, double, loaded, tested, stored, modified, replaced, nothing}
 use Rattle.isa.proofs.OpenInstructions.{instructions}
 use Rattle.effect.specs.declared.Work.{Work}
@@ -22,13 +21,13 @@ use Rattle.effect.specs.Work.{context, filled}
 abbrev regs : List ℕ
 regs = tableOf (λ k. 0x1000 + k) 0 16
 
--- IC is 100, CS is Z, PS is 3, and PI bit 15 is set
+-- CS is Z, PS is 3, and PI bit 15 is set
 abbrev before : Context
-before = context regs 0x0100 0x2030 0x0001
+before = context regs 0x2030 0x0001
 
--- a first word of the form f with RA 1 and RB 2; the second word is 2F0, the derived address 300
+-- at 100, a first word of the form f with RA 1 and RB 2; the second word is 2F0, the derived address 300
 abbrev coded : ℕ → Instruction
-coded f = record { form = f; first = 0x0012; second = 0x02F0; address = 0x0300 }
+coded f = record { ic = 0x0100; form = f; first = 0x0012; second = 0x02F0; address = 0x0300 }
 
 -- of two words, in memory; of one, in registers
 abbrev long : Instruction
@@ -53,10 +52,10 @@ abbrev put : Effect → List ℕ
 put e = e .words ++ (e .ic ∷ e .cs ∷ e .pi ∷ [])
 
 pub rows : List Row
-unfolding highWord lowWord status wrapped csOf instructions filled
+unfolding highWord lowWord status wrapped nextOf csOf instructions filled
 rows =
     -- following: one word on after an instruction of two; no wrap after FFFF
-    one (wrapped (0xFFFF + lengthOf 0x2637)) 1 0 0x10001
+    one (nextOf (record { ic = 0xFFFF; form = 0x2637; first = 0; second = 0; address = 0 })) 1 0 0x10001
     -- cs_of: the reserved bits; CS without C
     ∷ one (csOf 0x9A31) 9 0xA 1
     -- fixed_overflow: PI bit 3; PI bit 5
@@ -123,5 +122,5 @@ rows =
     ∷ []
 
 pub rows-hold : T (hold rows)
-unfolding rows highWord lowWord status wrapped csOf instructions filled
+unfolding rows highWord lowWord status wrapped nextOf csOf instructions filled
 rows-hold = tt

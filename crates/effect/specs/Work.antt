@@ -7,9 +7,9 @@ use Rattle.isa.specs.Fields.{withRegisters}
 use Rattle.isa.specs.Effects.{Context, three}
 use Rattle.effect.specs.declared.Work.{Work}
 
--- what the operation sees: registers, IC, SW and PI
-abbrev pub context : List ℕ → ℕ → ℕ → ℕ → Context
-context regs ic sw pi = record { regs = regs; ic = ic; sw = sw; pi = pi }
+-- what the operation sees: registers, SW and PI
+abbrev pub context : List ℕ → ℕ → ℕ → Context
+context regs sw pi = record { regs = regs; sw = sw; pi = pi }
 
 -- the registers after it: values go to the first register and those after it
 unfoldable pub filled : List ℕ → Work → List ℕ

@@ -1,11 +1,10 @@
 // What an operation on at most three words does: its scalars, and how its registers are filled.
 ghost use mathlib.Core.Path.{_≡_};
-ghost use Prim.Native.Nat.{_+_};
-ghost use Rattle.page.specs.Spans.{wrapped};
-ghost use Rattle.decode.specs.Forms.{lengthOf};
 ghost use Rattle.machine.specs.State.{csOf};
+ghost use Rattle.machine.specs.Machine.{nextOf};
 ghost use Rattle.isa.specs.Effects.{fixedOverflow, floatFaults};
 ghost use Rattle.effect.specs.Work.{filled};
+use machine::Instruction;
 use std::num::wrapping_add_u16;
 
 pub mod shapes;
@@ -27,11 +26,11 @@ pub struct Work {
     pub w2: u16,
 }
 
-// The address of the next instruction, from IC and the form of the one there.
-pub fn following(ic: u16, form: u16) -> u16
-    ensures { λ r. ⌜ r ≡ wrapped (ic + lengthOf form) ⌝ }
+// The address of the next instruction.
+pub fn following(n: Instruction) -> u16
+    ensures { λ r. ⌜ r ≡ nextOf n ⌝ }
 {
-    wrapping_add_u16(ic, form / 4096)
+    wrapping_add_u16(n.ic, n.form / 4096)
 }
 
 // CS of a status word.

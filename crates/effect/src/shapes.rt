@@ -15,8 +15,8 @@ use word::status::status16;
 use word::status::status32;
 
 // Register k gets a value, CS is set, PI bits are added.
-pub fn result1(ic: u16, pi: u16, n: Instruction, k: u16, x: u16, cs: u16, bits: u16) -> Work
-    ensures { λ r. ⌜ ((regs : List ℕ) (sw : ℕ) → worked regs r ≡ result (context regs ic sw pi) n k (x ∷ []) cs bits) ⌝ }
+pub fn result1(pi: u16, n: Instruction, k: u16, x: u16, cs: u16, bits: u16) -> Work
+    ensures { λ r. ⌜ ((regs : List ℕ) (sw : ℕ) → worked regs r ≡ result (context regs sw pi) n k (x ∷ []) cs bits) ⌝ }
 {
     Work {
         first: k,
@@ -24,7 +24,7 @@ pub fn result1(ic: u16, pi: u16, n: Instruction, k: u16, x: u16, cs: u16, bits: 
         v0: x,
         v1: 0,
         v2: 0,
-        ic: following(ic, n.form),
+        ic: following(n),
         cs,
         pi: pi | bits,
         w0: 0,
@@ -34,8 +34,8 @@ pub fn result1(ic: u16, pi: u16, n: Instruction, k: u16, x: u16, cs: u16, bits: 
 }
 
 // Two registers from k on get values.
-pub fn result2(ic: u16, pi: u16, n: Instruction, k: u16, x: u16, y: u16, cs: u16, bits: u16) -> Work
-    ensures { λ r. ⌜ ((regs : List ℕ) (sw : ℕ) → worked regs r ≡ result (context regs ic sw pi) n k (x ∷ y ∷ []) cs bits) ⌝ }
+pub fn result2(pi: u16, n: Instruction, k: u16, x: u16, y: u16, cs: u16, bits: u16) -> Work
+    ensures { λ r. ⌜ ((regs : List ℕ) (sw : ℕ) → worked regs r ≡ result (context regs sw pi) n k (x ∷ y ∷ []) cs bits) ⌝ }
 {
     Work {
         first: k,
@@ -43,7 +43,7 @@ pub fn result2(ic: u16, pi: u16, n: Instruction, k: u16, x: u16, y: u16, cs: u16
         v0: x,
         v1: y,
         v2: 0,
-        ic: following(ic, n.form),
+        ic: following(n),
         cs,
         pi: pi | bits,
         w0: 0,
@@ -53,18 +53,8 @@ pub fn result2(ic: u16, pi: u16, n: Instruction, k: u16, x: u16, y: u16, cs: u16
 }
 
 // Three registers from k on get values.
-pub fn result3(
-    ic: u16,
-    pi: u16,
-    n: Instruction,
-    k: u16,
-    x: u16,
-    y: u16,
-    z: u16,
-    cs: u16,
-    bits: u16,
-) -> Work
-    ensures { λ r. ⌜ ((regs : List ℕ) (sw : ℕ) → worked regs r ≡ result (context regs ic sw pi) n k (x ∷ y ∷ z ∷ []) cs bits) ⌝ }
+pub fn result3(pi: u16, n: Instruction, k: u16, x: u16, y: u16, z: u16, cs: u16, bits: u16) -> Work
+    ensures { λ r. ⌜ ((regs : List ℕ) (sw : ℕ) → worked regs r ≡ result (context regs sw pi) n k (x ∷ y ∷ z ∷ []) cs bits) ⌝ }
 {
     Work {
         first: k,
@@ -72,7 +62,7 @@ pub fn result3(
         v0: x,
         v1: y,
         v2: z,
-        ic: following(ic, n.form),
+        ic: following(n),
         cs,
         pi: pi | bits,
         w0: 0,
@@ -82,31 +72,31 @@ pub fn result3(
 }
 
 // Register k gets a word, and CS its status.
-pub fn single(ic: u16, pi: u16, n: Instruction, k: u16, x: u16) -> Work
-    ensures { λ r. ⌜ ((regs : List ℕ) (sw : ℕ) → worked regs r ≡ single (context regs ic sw pi) n k x) ⌝ }
+pub fn single(pi: u16, n: Instruction, k: u16, x: u16) -> Work
+    ensures { λ r. ⌜ ((regs : List ℕ) (sw : ℕ) → worked regs r ≡ single (context regs sw pi) n k x) ⌝ }
 {
-    result1(ic, pi, n, k, x, status16(x), 0)
+    result1(pi, n, k, x, status16(x), 0)
 }
 
 // Registers k and k + 1 get a double word, and CS its status.
-pub fn double(ic: u16, pi: u16, n: Instruction, k: u16, x: u32) -> Work
-    ensures { λ r. ⌜ ((regs : List ℕ) (sw : ℕ) → worked regs r ≡ double (context regs ic sw pi) n k x) ⌝ }
+pub fn double(pi: u16, n: Instruction, k: u16, x: u32) -> Work
+    ensures { λ r. ⌜ ((regs : List ℕ) (sw : ℕ) → worked regs r ≡ double (context regs sw pi) n k x) ⌝ }
 {
     let first = high(x);
     let second = low(x);
-    result2(ic, pi, n, k, first, second, status32(x), 0)
+    result2(pi, n, k, first, second, status32(x), 0)
 }
 
 // Register k gets a word.
-pub fn loaded(ic: u16, sw: u16, pi: u16, n: Instruction, k: u16, x: u16) -> Work
-    ensures { λ r. ⌜ ((regs : List ℕ) → worked regs r ≡ loaded (context regs ic sw pi) n k x) ⌝ }
+pub fn loaded(sw: u16, pi: u16, n: Instruction, k: u16, x: u16) -> Work
+    ensures { λ r. ⌜ ((regs : List ℕ) → worked regs r ≡ loaded (context regs sw pi) n k x) ⌝ }
 {
-    result1(ic, pi, n, k, x, cs_of(sw), 0)
+    result1(pi, n, k, x, cs_of(sw), 0)
 }
 
 // A word is stored, CS is set, PI bits are added.
-pub fn modified(ic: u16, pi: u16, n: Instruction, x: u16, cs: u16, bits: u16) -> Work
-    ensures { λ r. ⌜ ((regs : List ℕ) (sw : ℕ) → worked regs r ≡ modified (context regs ic sw pi) n x cs bits) ⌝ }
+pub fn modified(pi: u16, n: Instruction, x: u16, cs: u16, bits: u16) -> Work
+    ensures { λ r. ⌜ ((regs : List ℕ) (sw : ℕ) → worked regs r ≡ modified (context regs sw pi) n x cs bits) ⌝ }
 {
     Work {
         first: 0,
@@ -114,7 +104,7 @@ pub fn modified(ic: u16, pi: u16, n: Instruction, x: u16, cs: u16, bits: u16) ->
         v0: 0,
         v1: 0,
         v2: 0,
-        ic: following(ic, n.form),
+        ic: following(n),
         cs,
         pi: pi | bits,
         w0: x,
@@ -124,15 +114,15 @@ pub fn modified(ic: u16, pi: u16, n: Instruction, x: u16, cs: u16, bits: u16) ->
 }
 
 // CS is set.
-pub fn tested(ic: u16, pi: u16, n: Instruction, cs: u16) -> Work
-    ensures { λ r. ⌜ ((regs : List ℕ) (sw : ℕ) → worked regs r ≡ tested (context regs ic sw pi) n cs) ⌝ }
+pub fn tested(pi: u16, n: Instruction, cs: u16) -> Work
+    ensures { λ r. ⌜ ((regs : List ℕ) (sw : ℕ) → worked regs r ≡ tested (context regs sw pi) n cs) ⌝ }
 {
-    modified(ic, pi, n, 0, cs, 0)
+    modified(pi, n, 0, cs, 0)
 }
 
 // Up to three words are stored.
-pub fn stored(ic: u16, sw: u16, pi: u16, n: Instruction, x: u16, y: u16, z: u16) -> Work
-    ensures { λ r. ⌜ ((regs : List ℕ) → worked regs r ≡ stored (context regs ic sw pi) n x y z) ⌝ }
+pub fn stored(sw: u16, pi: u16, n: Instruction, x: u16, y: u16, z: u16) -> Work
+    ensures { λ r. ⌜ ((regs : List ℕ) → worked regs r ≡ stored (context regs sw pi) n x y z) ⌝ }
 {
     Work {
         first: 0,
@@ -140,7 +130,7 @@ pub fn stored(ic: u16, sw: u16, pi: u16, n: Instruction, x: u16, y: u16, z: u16)
         v0: 0,
         v1: 0,
         v2: 0,
-        ic: following(ic, n.form),
+        ic: following(n),
         cs: cs_of(sw),
         pi: pi | 0,
         w0: x,
@@ -150,18 +140,18 @@ pub fn stored(ic: u16, sw: u16, pi: u16, n: Instruction, x: u16, y: u16, z: u16)
 }
 
 // A word replaces the operand, in register RB or in memory.
-pub fn replaced(ic: u16, sw: u16, pi: u16, n: Instruction, x: u16) -> Work
-    ensures { λ r. ⌜ ((regs : List ℕ) → worked regs r ≡ replaced (context regs ic sw pi) n x) ⌝ }
+pub fn replaced(sw: u16, pi: u16, n: Instruction, x: u16) -> Work
+    ensures { λ r. ⌜ ((regs : List ℕ) → worked regs r ≡ replaced (context regs sw pi) n x) ⌝ }
 {
     if n.form / 256 % 16 == 1 {
-        return loaded(ic, sw, pi, n, n.first % 16, x);
+        return loaded(sw, pi, n, n.first % 16, x);
     }
-    stored(ic, sw, pi, n, x, 0, 0)
+    stored(sw, pi, n, x, 0, 0)
 }
 
 // Nothing: on to the next instruction.
-pub fn nothing(ic: u16, sw: u16, pi: u16, n: Instruction) -> Work
-    ensures { λ r. ⌜ ((regs : List ℕ) → worked regs r ≡ nothing (context regs ic sw pi) n) ⌝ }
+pub fn nothing(sw: u16, pi: u16, n: Instruction) -> Work
+    ensures { λ r. ⌜ ((regs : List ℕ) → worked regs r ≡ nothing (context regs sw pi) n) ⌝ }
 {
-    stored(ic, sw, pi, n, 0, 0, 0)
+    stored(sw, pi, n, 0, 0, 0)
 }

@@ -14,13 +14,13 @@ use Rattle.isa.proofs.OpenWords.{words}
 use Rattle.isa.proofs.OpenInstructions.{instructions}
 use Rattle.effect.specs.Work.{context}
 
--- R0 has 1000, R1 has 1001, and so on; IC is 100, CS is Z, PI is 0
+-- R0 has 1000, R1 has 1001, and so on; CS is Z, PI is 0
 abbrev before : Context
-before = context (tableOf (λ k. 0x1000 + k) 0 16) 0x0100 0x2000 0
+before = context (tableOf (λ k. 0x1000 + k) 0 16) 0x2000 0
 
 -- an instruction of one word
 abbrev coded : ℕ → ℕ → Instruction
-coded form first = record { form = form; first = first; second = 0; address = 0 }
+coded form first = record { ic = 0x0100; form = form; first = first; second = 0; address = 0 }
 
 -- R1, R4 and CS
 abbrev parts : Effect → List ℕ

@@ -23,28 +23,28 @@ use effect::shapes::tested;
 use machine::Instruction;
 
 // TSB: bit a of the operand o is tested, then set (5.6). Every caller's bit number is a field of four bits.
-fn test_and_set(ic: u16, pi: u16, n: Instruction, o: u16, a: u16) -> Work
+fn test_and_set(pi: u16, n: Instruction, o: u16, a: u16) -> Work
     requires { ⌜ a < 16 ⌝ }
-    ensures { λ r. ⌜ ((regs : List ℕ) (sw : ℕ) → worked regs r ≡ modified (context regs ic sw pi) n (setBit o a) (testBit o a) 0) ⌝ }
+    ensures { λ r. ⌜ ((regs : List ℕ) (sw : ℕ) → worked regs r ≡ modified (context regs sw pi) n (setBit o a) (testBit o a) 0) ⌝ }
 {
-    modified(ic, pi, n, set_bit(o, a), test_bit(o, a), 0)
+    modified(pi, n, set_bit(o, a), test_bit(o, a), 0)
 }
 
 // SB RB TB TSB SVBR RVBR TVBR; x is the word read.
-pub fn bit_operation(regs: &[u16; 16], ic: u16, sw: u16, pi: u16, n: Instruction, x: u16) -> Work
-    ensures { λ r. ⌜ worked (now (regs .entry)) r ≡ bitOperation (context (now (regs .entry)) ic sw pi) n x (operationOf (n .form)) ⌝ }
+pub fn bit_operation(regs: &[u16; 16], sw: u16, pi: u16, n: Instruction, x: u16) -> Work
+    ensures { λ r. ⌜ worked (now (regs .entry)) r ≡ bitOperation (context (now (regs .entry)) sw pi) n x (operationOf (n .form)) ⌝ }
 {
     let a = field_a(n.first);
     let b = field_b(n.first);
     let operation = n.form % 256;
     match operation {
-        3 => replaced(ic, sw, pi, n, set_bit(operand_of(regs, n, x), a)),
-        4 => replaced(ic, sw, pi, n, reset_bit(operand_of(regs, n, x), a)),
-        5 => tested(ic, pi, n, test_bit(operand_of(regs, n, x), a)),
-        6 => test_and_set(ic, pi, n, operand_of(regs, n, x), a),
-        7 => loaded(ic, sw, pi, n, b, set_bit(get(regs, b), get(regs, a) % 16)),
-        8 => loaded(ic, sw, pi, n, b, reset_bit(get(regs, b), get(regs, a) % 16)),
-        9 => tested(ic, pi, n, test_bit(get(regs, b), get(regs, a) % 16)),
-        _ => nothing(ic, sw, pi, n),
+        3 => replaced(sw, pi, n, set_bit(operand_of(regs, n, x), a)),
+        4 => replaced(sw, pi, n, reset_bit(operand_of(regs, n, x), a)),
+        5 => tested(pi, n, test_bit(operand_of(regs, n, x), a)),
+        6 => test_and_set(pi, n, operand_of(regs, n, x), a),
+        7 => loaded(sw, pi, n, b, set_bit(get(regs, b), get(regs, a) % 16)),
+        8 => loaded(sw, pi, n, b, reset_bit(get(regs, b), get(regs, a) % 16)),
+        9 => tested(pi, n, test_bit(get(regs, b), get(regs, a) % 16)),
+        _ => nothing(sw, pi, n),
     }
 }

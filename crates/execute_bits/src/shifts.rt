@@ -40,12 +40,11 @@ use word::status::status16;
 use word::status::status32;
 
 // RA after a shift by a count in a register.
-fn shifted_single(ic: u16, pi: u16, n: Instruction, s: Shifted16) -> Work
-    ensures { λ r. ⌜ ((regs : List ℕ) (sw : ℕ) (t : Shifted) → s ≡ shifted16 t → worked regs r ≡ shiftedSingle (context regs ic sw pi) n t) ⌝ }
+fn shifted_single(pi: u16, n: Instruction, s: Shifted16) -> Work
+    ensures { λ r. ⌜ ((regs : List ℕ) (sw : ℕ) (t : Shifted) → s ≡ shifted16 t → worked regs r ≡ shiftedSingle (context regs sw pi) n t) ⌝ }
 {
     let value = s.value;
     result1(
-        ic,
         pi,
         n,
         field_a(n.first),
@@ -56,13 +55,12 @@ fn shifted_single(ic: u16, pi: u16, n: Instruction, s: Shifted16) -> Work
 }
 
 // RA and RA + 1 after a shift by a count in a register.
-fn shifted_double(ic: u16, pi: u16, n: Instruction, s: Shifted32) -> Work
-    ensures { λ r. ⌜ ((regs : List ℕ) (sw : ℕ) (t : Shifted) → s ≡ shifted32 t → worked regs r ≡ shiftedDouble (context regs ic sw pi) n t) ⌝ }
+fn shifted_double(pi: u16, n: Instruction, s: Shifted32) -> Work
+    ensures { λ r. ⌜ ((regs : List ℕ) (sw : ℕ) (t : Shifted) → s ≡ shifted32 t → worked regs r ≡ shiftedDouble (context regs sw pi) n t) ⌝ }
 {
     let value = s.value;
     let bits = fixed_overflow(s.overflow);
     result2(
-        ic,
         pi,
         n,
         field_a(n.first),
@@ -74,28 +72,28 @@ fn shifted_double(ic: u16, pi: u16, n: Instruction, s: Shifted32) -> Work
 }
 
 // SLL SRL SRA SLC, DSLL DSRL DSRA DSLC, SLR SAR SCR, DSLR DSAR DSCR.
-pub fn shift_operation(regs: &[u16; 16], ic: u16, sw: u16, pi: u16, n: Instruction) -> Work
-    ensures { λ r. ⌜ worked (now (regs .entry)) r ≡ shiftOperation (context (now (regs .entry)) ic sw pi) n (operationOf (n .form)) ⌝ }
+pub fn shift_operation(regs: &[u16; 16], sw: u16, pi: u16, n: Instruction) -> Work
+    ensures { λ r. ⌜ worked (now (regs .entry)) r ≡ shiftOperation (context (now (regs .entry)) sw pi) n (operationOf (n .form)) ⌝ }
 {
     let a = field_a(n.first);
     let b = field_b(n.first);
     let rb = get(regs, b);
     let operation = n.form % 256;
     match operation {
-        10 => single(ic, pi, n, b, left16(rb, a + 1)),
-        11 => single(ic, pi, n, b, right16(rb, a + 1)),
-        12 => single(ic, pi, n, b, arith16(rb, a + 1)),
-        13 => single(ic, pi, n, b, cyclic16(rb, a + 1)),
-        14 => double(ic, pi, n, b, left32(pair_at(regs, b), a + 1)),
-        15 => double(ic, pi, n, b, right32(pair_at(regs, b), a + 1)),
-        16 => double(ic, pi, n, b, arith32(pair_at(regs, b), a + 1)),
-        17 => double(ic, pi, n, b, cyclic32(pair_at(regs, b), a + 1)),
-        18 => shifted_single(ic, pi, n, logical16(get(regs, a), rb)),
-        19 => shifted_single(ic, pi, n, arithmetic16(get(regs, a), rb)),
-        20 => shifted_single(ic, pi, n, circular16(get(regs, a), rb)),
-        21 => shifted_double(ic, pi, n, logical32(pair_at(regs, a), rb)),
-        22 => shifted_double(ic, pi, n, arithmetic32(pair_at(regs, a), rb)),
-        23 => shifted_double(ic, pi, n, circular32(pair_at(regs, a), rb)),
-        _ => nothing(ic, sw, pi, n),
+        10 => single(pi, n, b, left16(rb, a + 1)),
+        11 => single(pi, n, b, right16(rb, a + 1)),
+        12 => single(pi, n, b, arith16(rb, a + 1)),
+        13 => single(pi, n, b, cyclic16(rb, a + 1)),
+        14 => double(pi, n, b, left32(pair_at(regs, b), a + 1)),
+        15 => double(pi, n, b, right32(pair_at(regs, b), a + 1)),
+        16 => double(pi, n, b, arith32(pair_at(regs, b), a + 1)),
+        17 => double(pi, n, b, cyclic32(pair_at(regs, b), a + 1)),
+        18 => shifted_single(pi, n, logical16(get(regs, a), rb)),
+        19 => shifted_single(pi, n, arithmetic16(get(regs, a), rb)),
+        20 => shifted_single(pi, n, circular16(get(regs, a), rb)),
+        21 => shifted_double(pi, n, logical32(pair_at(regs, a), rb)),
+        22 => shifted_double(pi, n, arithmetic32(pair_at(regs, a), rb)),
+        23 => shifted_double(pi, n, circular32(pair_at(regs, a), rb)),
+        _ => nothing(sw, pi, n),
     }
 }

@@ -15,13 +15,13 @@ use Rattle.isa.proofs.OpenFloats.{floats}
 use Rattle.isa.proofs.OpenInstructions.{instructions}
 use Rattle.effect.specs.Work.{context}
 
--- R1 and R2 have one half, and each other register has 1000 plus its number; IC is 100, CS is Z, PI is 0
+-- R1 and R2 have one half, and each other register has 1000 plus its number; CS is Z, PI is 0
 abbrev before : Context
-before = context (set (set (tableOf (λ k. 0x1000 + k) 0 16) 1 0x4000) 2 0) 0x0100 0x2000 0
+before = context (set (set (tableOf (λ k. 0x1000 + k) 0 16) 1 0x4000) 2 0) 0x2000 0
 
 -- FA with RA 1
 abbrev add : Instruction
-add = record { form = 0x263C; first = 0xA810; second = 0x0300; address = 0x0300 }
+add = record { ic = 0x0100; form = 0x263C; first = 0xA810; second = 0x0300; address = 0x0300 }
 
 -- R1, R2, CS and PI
 abbrev parts : Effect → List ℕ

@@ -27,7 +27,6 @@ use machine::Instruction;
 // x, y and z are the words read, k the accumulator's number.
 pub fn float_operation(
     regs: &[u16; 16],
-    ic: u16,
     sw: u16,
     pi: u16,
     n: Instruction,
@@ -35,27 +34,27 @@ pub fn float_operation(
     y: u16,
     z: u16,
 ) -> Work
-    ensures { λ r. ⌜ worked (now (regs .entry)) r ≡ floatOperation (context (now (regs .entry)) ic sw pi) n x y z (operationOf (n .form)) ⌝ }
+    ensures { λ r. ⌜ worked (now (regs .entry)) r ≡ floatOperation (context (now (regs .entry)) sw pi) n x y z (operationOf (n .form)) ⌝ }
 {
     let a = field_a(n.first);
     let k = accumulator_of(n);
     match n.form % 256 {
-        60 => give24(ic, pi, n, k, combine(24, 60, both24(regs, n, x, y))),
-        61 => give40(ic, pi, n, a, combine(40, 60, both40(regs, n, x, y, z))),
-        62 => give24(ic, pi, n, a, change24(62, both24(regs, n, x, y))),
-        68 => give24(ic, pi, n, k, combine(24, 68, both24(regs, n, x, y))),
-        69 => give40(ic, pi, n, a, combine(40, 68, both40(regs, n, x, y, z))),
-        70 => give24(ic, pi, n, a, change24(70, both24(regs, n, x, y))),
-        74 => give24(ic, pi, n, k, combine(24, 74, both24(regs, n, x, y))),
-        75 => give40(ic, pi, n, a, combine(40, 74, both40(regs, n, x, y, z))),
-        79 => give24(ic, pi, n, k, combine(24, 79, both24(regs, n, x, y))),
-        80 => give40(ic, pi, n, a, combine(40, 79, both40(regs, n, x, y, z))),
-        85 => to_integer(regs, ic, pi, n, x, y),
-        86 => give24(ic, pi, n, a, float24(operand_of(regs, n, x))),
-        87 => to_double_integer(regs, ic, pi, n, x, y, z),
-        88 => give40(ic, pi, n, a, float40(double_operand(regs, n, x, y))),
-        94 => tested(ic, pi, n, compare_both(24, both24(regs, n, x, y))),
-        95 => tested(ic, pi, n, compare_both(40, both40(regs, n, x, y, z))),
-        _ => nothing(ic, sw, pi, n),
+        60 => give24(pi, n, k, combine(24, 60, both24(regs, n, x, y))),
+        61 => give40(pi, n, a, combine(40, 60, both40(regs, n, x, y, z))),
+        62 => give24(pi, n, a, change24(62, both24(regs, n, x, y))),
+        68 => give24(pi, n, k, combine(24, 68, both24(regs, n, x, y))),
+        69 => give40(pi, n, a, combine(40, 68, both40(regs, n, x, y, z))),
+        70 => give24(pi, n, a, change24(70, both24(regs, n, x, y))),
+        74 => give24(pi, n, k, combine(24, 74, both24(regs, n, x, y))),
+        75 => give40(pi, n, a, combine(40, 74, both40(regs, n, x, y, z))),
+        79 => give24(pi, n, k, combine(24, 79, both24(regs, n, x, y))),
+        80 => give40(pi, n, a, combine(40, 79, both40(regs, n, x, y, z))),
+        85 => to_integer(regs, pi, n, x, y),
+        86 => give24(pi, n, a, float24(operand_of(regs, n, x))),
+        87 => to_double_integer(regs, pi, n, x, y, z),
+        88 => give40(pi, n, a, float40(double_operand(regs, n, x, y))),
+        94 => tested(pi, n, compare_both(24, both24(regs, n, x, y))),
+        95 => tested(pi, n, compare_both(40, both40(regs, n, x, y, z))),
+        _ => nothing(sw, pi, n),
     }
 }

@@ -14,13 +14,13 @@ use Rattle.isa.proofs.OpenWords.{words}
 use Rattle.isa.proofs.OpenInstructions.{instructions}
 use Rattle.effect.specs.Work.{context}
 
--- R1 is given, and each other register has 1000 plus its number; IC is 100, CS is Z, PI is 0
+-- R1 is given, and each other register has 1000 plus its number; CS is Z, PI is 0
 abbrev before : ℕ → Context
-before x = context (set (tableOf (λ k. 0x1000 + k) 0 16) 1 x) 0x0100 0x2000 0
+before x = context (set (tableOf (λ k. 0x1000 + k) 0 16) 1 x) 0x2000 0
 
 -- an instruction of two words, with the derived address 300
 abbrev coded : ℕ → ℕ → Instruction
-coded form first = record { form = form; first = first; second = 0x0300; address = 0x0300 }
+coded form first = record { ic = 0x0100; form = form; first = first; second = 0x0300; address = 0x0300 }
 
 -- R1, R2, CS and PI
 abbrev parts : Effect → List ℕ

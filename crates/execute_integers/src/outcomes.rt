@@ -25,35 +25,35 @@ use word::pair::high;
 use word::pair::low;
 
 // Register k gets an outcome of 16 bits.
-pub(crate) fn single_outcome(ic: u16, pi: u16, n: Instruction, k: u16, s: Single) -> Work
-    ensures { λ r. ⌜ ((regs : List ℕ) (sw : ℕ) (o : Outcome) → s ≡ single o → worked regs r ≡ singleOutcome (context regs ic sw pi) n k o) ⌝ }
+pub(crate) fn single_outcome(pi: u16, n: Instruction, k: u16, s: Single) -> Work
+    ensures { λ r. ⌜ ((regs : List ℕ) (sw : ℕ) (o : Outcome) → s ≡ single o → worked regs r ≡ singleOutcome (context regs sw pi) n k o) ⌝ }
 {
-    result1(ic, pi, n, k, s.value, s.cs, fixed_overflow(s.overflow))
+    result1(pi, n, k, s.value, s.cs, fixed_overflow(s.overflow))
 }
 
 // Registers k and k + 1 get one of 32 bits.
-pub(crate) fn double_outcome(ic: u16, pi: u16, n: Instruction, k: u16, d: Double) -> Work
-    ensures { λ r. ⌜ ((regs : List ℕ) (sw : ℕ) (o : Outcome) → d ≡ double o → worked regs r ≡ doubleOutcome (context regs ic sw pi) n k o) ⌝ }
+pub(crate) fn double_outcome(pi: u16, n: Instruction, k: u16, d: Double) -> Work
+    ensures { λ r. ⌜ ((regs : List ℕ) (sw : ℕ) (o : Outcome) → d ≡ double o → worked regs r ≡ doubleOutcome (context regs sw pi) n k o) ⌝ }
 {
     let bits = fixed_overflow(d.overflow);
     let first = high(d.value);
     let second = low(d.value);
-    result2(ic, pi, n, k, first, second, d.cs, bits)
+    result2(pi, n, k, first, second, d.cs, bits)
 }
 
 // The memory word gets one of 16 bits.
-pub(crate) fn memory_outcome(ic: u16, pi: u16, n: Instruction, s: Single) -> Work
-    ensures { λ r. ⌜ ((regs : List ℕ) (sw : ℕ) (o : Outcome) → s ≡ single o → worked regs r ≡ memoryOutcome (context regs ic sw pi) n o) ⌝ }
+pub(crate) fn memory_outcome(pi: u16, n: Instruction, s: Single) -> Work
+    ensures { λ r. ⌜ ((regs : List ℕ) (sw : ℕ) (o : Outcome) → s ≡ single o → worked regs r ≡ memoryOutcome (context regs sw pi) n o) ⌝ }
 {
-    modified(ic, pi, n, s.value, s.cs, fixed_overflow(s.overflow))
+    modified(pi, n, s.value, s.cs, fixed_overflow(s.overflow))
 }
 
 // Registers k and k + 1 get a quotient and its remainder.
-pub(crate) fn quotient_outcome(ic: u16, pi: u16, n: Instruction, k: u16, q: Quotient) -> Work
-    ensures { λ r. ⌜ ((regs : List ℕ) (sw : ℕ) → worked regs r ≡ quotientOutcome (context regs ic sw pi) n k q) ⌝ }
+pub(crate) fn quotient_outcome(pi: u16, n: Instruction, k: u16, q: Quotient) -> Work
+    ensures { λ r. ⌜ ((regs : List ℕ) (sw : ℕ) → worked regs r ≡ quotientOutcome (context regs sw pi) n k q) ⌝ }
 {
     let bits = fixed_overflow(q.overflow);
-    result2(ic, pi, n, k, q.quotient, q.remainder, q.cs, bits)
+    result2(pi, n, k, q.quotient, q.remainder, q.cs, bits)
 }
 
 // Sum, difference, product or quotient of a register pair and the double operand, by its paragraph. a is a register's number.

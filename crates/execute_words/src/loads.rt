@@ -19,7 +19,6 @@ use machine::Instruction;
 // L DL EFL LUB LLB; x, y and z are the words read.
 pub fn load_operation(
     regs: &[u16; 16],
-    ic: u16,
     sw: u16,
     pi: u16,
     n: Instruction,
@@ -28,26 +27,14 @@ pub fn load_operation(
     z: u16,
 ) -> Work
     requires { ⌜ (operationOf (n .form) ≡ 38 → ⊥) × (operationOf (n .form) ≡ 39 → ⊥) ⌝ }
-    ensures { λ r. ⌜ worked (now (regs .entry)) r ≡ loadOperation (context (now (regs .entry)) ic sw pi) n x y z (operationOf (n .form)) ⌝ }
+    ensures { λ r. ⌜ worked (now (regs .entry)) r ≡ loadOperation (context (now (regs .entry)) sw pi) n x y z (operationOf (n .form)) ⌝ }
 {
     let a = field_a(n.first);
     let operation = n.form % 256;
     match operation {
-        41 => result3(ic, pi, n, a, x, y, z, status(40, mantissa40(x, y, z)), 0),
-        42 => single(
-            ic,
-            pi,
-            n,
-            a,
-            load_upper(get(regs, a), operand_of(regs, n, x)),
-        ),
-        43 => single(
-            ic,
-            pi,
-            n,
-            a,
-            load_lower(get(regs, a), operand_of(regs, n, x)),
-        ),
-        _ => nothing(ic, sw, pi, n),
+        41 => result3(pi, n, a, x, y, z, status(40, mantissa40(x, y, z)), 0),
+        42 => single(pi, n, a, load_upper(get(regs, a), operand_of(regs, n, x))),
+        43 => single(pi, n, a, load_lower(get(regs, a), operand_of(regs, n, x))),
+        _ => nothing(sw, pi, n),
     }
 }

@@ -14,15 +14,14 @@ use effect::shapes::stored;
 use machine::Instruction;
 
 // ST STC DST SRM EFST STUB STLB; x is the word read.
-pub fn store_operation(regs: &[u16; 16], ic: u16, sw: u16, pi: u16, n: Instruction, x: u16) -> Work
+pub fn store_operation(regs: &[u16; 16], sw: u16, pi: u16, n: Instruction, x: u16) -> Work
     requires { ⌜ (operationOf (n .form) ≡ 45 → ⊥) × (operationOf (n .form) ≡ 46 → ⊥) × (operationOf (n .form) ≡ 48 → ⊥) ⌝ }
-    ensures { λ r. ⌜ worked (now (regs .entry)) r ≡ storeOperation (context (now (regs .entry)) ic sw pi) n x (operationOf (n .form)) ⌝ }
+    ensures { λ r. ⌜ worked (now (regs .entry)) r ≡ storeOperation (context (now (regs .entry)) sw pi) n x (operationOf (n .form)) ⌝ }
 {
     let a = field_a(n.first);
     let operation = n.form % 256;
     match operation {
         49 => stored(
-            ic,
             sw,
             pi,
             n,
@@ -30,17 +29,9 @@ pub fn store_operation(regs: &[u16; 16], ic: u16, sw: u16, pi: u16, n: Instructi
             0,
             0,
         ),
-        51 => stored(
-            ic,
-            sw,
-            pi,
-            n,
-            get(regs, a),
-            get(regs, a + 1),
-            get(regs, a + 2),
-        ),
-        52 => stored(ic, sw, pi, n, store_upper(x, get(regs, a)), 0, 0),
-        53 => stored(ic, sw, pi, n, store_lower(x, get(regs, a)), 0, 0),
-        _ => nothing(ic, sw, pi, n),
+        51 => stored(sw, pi, n, get(regs, a), get(regs, a + 1), get(regs, a + 2)),
+        52 => stored(sw, pi, n, store_upper(x, get(regs, a)), 0, 0),
+        53 => stored(sw, pi, n, store_lower(x, get(regs, a)), 0, 0),
+        _ => nothing(sw, pi, n),
     }
 }

@@ -27,7 +27,7 @@ registers = 0x4001 ∷ 0x0201 ∷ 0x4003 ∷ 0x0402 ∷ 0x4005 ∷ 0x0603 ∷ 0x
 
 -- an instruction of this form, with RA = R2 and RB = R4
 abbrev instruction : ℕ → Instruction
-instruction form = record { form = form; first = 0x0024; second = 0; address = 0 }
+instruction form = record { ic = 0x0100; form = form; first = 0x0024; second = 0; address = 0 }
 
 pub rows : List Row
 rows =

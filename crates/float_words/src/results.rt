@@ -29,19 +29,19 @@ use word::status::status16;
 use word::status::status32;
 
 // Registers k and k + 1 get a float, CS the status of its mantissa, and PI its faults.
-pub fn give24(ic: u16, pi: u16, n: Instruction, k: u16, f: Float) -> Work
-    ensures { λ r. ⌜ ((regs : List ℕ) (sw : ℕ) → worked regs r ≡ float24 (context regs ic sw pi) n k f) ⌝ }
+pub fn give24(pi: u16, n: Instruction, k: u16, f: Float) -> Work
+    ensures { λ r. ⌜ ((regs : List ℕ) (sw : ℕ) → worked regs r ≡ float24 (context regs sw pi) n k f) ⌝ }
 {
     let first = first_word(f.mantissa);
     let second = second_word(f.mantissa, f.exponent);
     let cs = status(24, f.mantissa);
     let bits = float_faults(f.overflow, f.underflow);
-    result2(ic, pi, n, k, first, second, cs, bits)
+    result2(pi, n, k, first, second, cs, bits)
 }
 
 // Three registers get one with a mantissa of 40 bits.
-pub fn give40(ic: u16, pi: u16, n: Instruction, k: u16, f: Float) -> Work
-    ensures { λ r. ⌜ ((regs : List ℕ) (sw : ℕ) → worked regs r ≡ float40 (context regs ic sw pi) n k f) ⌝ }
+pub fn give40(pi: u16, n: Instruction, k: u16, f: Float) -> Work
+    ensures { λ r. ⌜ ((regs : List ℕ) (sw : ℕ) → worked regs r ≡ float40 (context regs sw pi) n k f) ⌝ }
 {
     let upper = f.mantissa / 65536;
     let first = first_word(upper);
@@ -49,31 +49,23 @@ pub fn give40(ic: u16, pi: u16, n: Instruction, k: u16, f: Float) -> Work
     let third = third_word(f.mantissa);
     let cs = status(40, f.mantissa);
     let bits = float_faults(f.overflow, f.underflow);
-    result3(ic, pi, n, k, first, second, third, cs, bits)
+    result3(pi, n, k, first, second, third, cs, bits)
 }
 
 // FIX: RA gets the integer, or keeps what it has.
-pub fn to_integer(regs: &[u16; 16], ic: u16, pi: u16, n: Instruction, x: u16, y: u16) -> Work
-    ensures { λ r. ⌜ ((sw : ℕ) → worked (now (regs .entry)) r ≡ toInteger (context (now (regs .entry)) ic sw pi) n x y) ⌝ }
+pub fn to_integer(regs: &[u16; 16], pi: u16, n: Instruction, x: u16, y: u16) -> Work
+    ensures { λ r. ⌜ ((sw : ℕ) → worked (now (regs .entry)) r ≡ toInteger (context (now (regs .entry)) sw pi) n x y) ⌝ }
 {
     let a = field_a(n.first);
     let p = both24(regs, n, x, y);
     let f = fix24(p.b, p.eb, get(regs, a));
     let i = f.value as u16;
-    result1(ic, pi, n, a, i, status16(i), fixed_overflow(f.overflow))
+    result1(pi, n, a, i, status16(i), fixed_overflow(f.overflow))
 }
 
 // EFIX.
-pub fn to_double_integer(
-    regs: &[u16; 16],
-    ic: u16,
-    pi: u16,
-    n: Instruction,
-    x: u16,
-    y: u16,
-    z: u16,
-) -> Work
-    ensures { λ r. ⌜ ((sw : ℕ) → worked (now (regs .entry)) r ≡ toDoubleInteger (context (now (regs .entry)) ic sw pi) n x y z) ⌝ }
+pub fn to_double_integer(regs: &[u16; 16], pi: u16, n: Instruction, x: u16, y: u16, z: u16) -> Work
+    ensures { λ r. ⌜ ((sw : ℕ) → worked (now (regs .entry)) r ≡ toDoubleInteger (context (now (regs .entry)) sw pi) n x y z) ⌝ }
 {
     let a = field_a(n.first);
     let p = both40(regs, n, x, y, z);
@@ -82,5 +74,5 @@ pub fn to_double_integer(
     let bits = fixed_overflow(f.overflow);
     let first = high(f.value);
     let second = low(f.value);
-    result2(ic, pi, n, a, first, second, cs, bits)
+    result2(pi, n, a, first, second, cs, bits)
 }

@@ -20,11 +20,11 @@ use storage::write::write_word;
 
 // The words read, 0 past their number, where all accesses are open; else the FT bit of the first refusal.
 pub struct Gathered {
-    pub clear: bool,
-    pub fault: u16,
     pub x: u16,
+    pub clear: bool,
     pub y: u16,
     pub z: u16,
+    pub fault: u16,
 }
 
 // All words are there.

@@ -48,6 +48,7 @@ use spans::writes;
 use status_word::advance;
 use status_word::group_of;
 use status_word::key_of;
+use status_word::update;
 use system::command;
 use system::executive;
 use system::load;
@@ -84,7 +85,7 @@ fn carry_words(
     let verdict = verify(core.sw, pages, memory.len(), from, to);
     match verdict {
         Verdict::Clear => weighed(core.pi, block(core, regs, memory, pages, n, from)),
-        Verdict::Fault(b) => deny(core, b, advance(core.ic, n.form / 4096)),
+        Verdict::Fault(b) => deny(core, b, advance(n.ic, n.form / 4096)),
     }
 }
 
@@ -135,7 +136,7 @@ fn proceed(
             let done = work(core, regs, memory, pages, n, g.x, g.y, g.z, to);
             weighed(core.pi, done)
         }
-        Verdict::Fault(b) => deny(core, b, advance(core.ic, n.form / 4096)),
+        Verdict::Fault(b) => deny(core, b, advance(n.ic, n.form / 4096)),
     }
 }
 
@@ -157,9 +158,9 @@ fn carry_direct(
 {
     let end = direct(core, key, group, regs, memory, pages, n, number);
     if end.clear {
-        return weighed(core.pi, end.core);
+        return weighed(core.pi, update(core, end.ic, end.sw, end.pi));
     }
-    deny(core, end.fault, advance(core.ic, n.form / 4096))
+    deny(core, end.fault, advance(n.ic, n.form / 4096))
 }
 
 // Any other user's operation, with any ports: its words are checked and read before it changes anything.
@@ -183,7 +184,7 @@ fn carry_ordinary(
     if g.clear {
         return proceed(core, key, group, regs, memory, pages, n, g, number);
     }
-    deny(core, g.fault, advance(core.ic, n.form / 4096))
+    deny(core, g.fault, advance(n.ic, n.form / 4096))
 }
 
 // An instruction that is ready, by its form number, whose ranges are the rules: its accesses are checked before it changes anything.

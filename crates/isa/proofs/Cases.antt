@@ -7,8 +7,9 @@ use lib.Dec.{T}
 use lib.ListN.{replicate, set}
 use Rattle.choice.proofs.Rows.{allOf}
 use Rattle.machine.specs.declared.State.{State}
+use Rattle.machine.specs.declared.Clock.{Clock}
 use Rattle.machine.specs.Machine.{Machine, machine}
-use Rattle.machine.specs.State.{withCore, withMk, withPi, withFt, withHold}
+use Rattle.machine.specs.State.{withCore, withClock, withMk, withPi, withFt, withHold}
 use Rattle.machine.specs.Step.{step}
 use Rattle.machine.proofs.Opened.{machinery}
 use Rattle.machine.proofs.Samples.{resetPages, stateAt, stepsOn, sameMachine}
@@ -158,3 +159,52 @@ right c =
 pub cases-hold : T (allOf right cases)
 unfolding words floats decoder machinery instructions with cases right
 cases-hold = tt
+
+-- ---- the timer commands: XIO with RA R1
+
+-- the command, the clock and R1 before the step, whose tick makes the counter 10; then the clock, R1 and PI
+pub record Timed : Type 0 where
+  pub command : ℕ
+  pub clock : Clock
+  pub ra : ℕ
+  pub clock' : Clock
+  pub ra' : ℕ
+  pub pi' : ℕ
+
+-- timers A and B, with their running marks, and the counter
+abbrev pub clockOf : ℕ → Bool → ℕ → Bool → ℕ → Clock
+clockOf ta taon tb tbon count = record { ta = ta; tb = tb; taon = taon; tbon = tbon; count = count }
+
+-- a command from timers A and B with their marks and R1 to others, and PI
+abbrev pub timed : ℕ → ℕ → Bool → ℕ → Bool → ℕ → ℕ → Bool → ℕ → Bool → ℕ → ℕ → Timed
+timed command ta taon tb tbon ra ta' taon' tb' tbon' ra' pi' =
+    record { command = command; clock = clockOf ta taon tb tbon 9; ra = ra; clock' = clockOf ta' taon' tb' tbon' 10; ra' = ra'; pi' = pi' }
+
+unfoldable pub timers : List Timed
+timers =
+    -- TAS, TBS: a timer that is started rises at the end of the same step, B to its end
+    timed 0x4008 5 false 7 true 0x1234 6 true 8 true 0x1234 0x0000 ∷
+    timed 0x400C 5 false 0xFFFF false 0x1234 5 false 0 true 0x1234 0x0040 ∷
+    -- TAH, TBH: a timer that is halted at FFFF stays there
+    timed 0x4009 0xFFFF true 7 true 0x1234 0xFFFF false 8 true 0x1234 0x0000 ∷
+    timed 0x400D 5 true 0xFFFF true 0x1234 6 true 0xFFFF false 0x1234 0x0000 ∷
+    -- OTA, OTB: a timer that is set starts and rises, A from FFFF to its end
+    timed 0x400A 5 false 7 true 0xFFFF 0 true 8 true 0xFFFF 0x0100 ∷
+    timed 0x400E 5 true 7 false 0x0010 6 true 0x0011 true 0x0010 0x0000 ∷
+    -- ITA, ITB: the timer before it rises
+    timed 0xC00A 5 true 7 true 0x1234 6 true 8 true 0x0005 0x0000 ∷
+    timed 0xC00E 5 true 7 true 0x1234 6 true 8 true 0x0007 0x0000 ∷
+    []
+
+-- XIO R1 and the command at 0
+abbrev pub ticking : Timed → State → Machine
+ticking c s = machine s (with ((0, 0x4810) ∷ (1, c .command) ∷ []) (replicate 8192 0)) resetPages (replicate 1024 0)
+
+unfoldable pub kept : Timed → Bool
+kept c =
+    sameMachine (step mil1750 (ticking c (withClock (stateOf ((1, c .ra) ∷ []) 0 0 0 0) (c .clock))))
+    (ticking c (withClock (stateOf ((1, c .ra') ∷ []) 2 0 (c .pi') 0) (c .clock')))
+
+pub timers-hold : T (allOf kept timers)
+unfolding words floats decoder machinery instructions with timers kept
+timers-hold = tt

@@ -9,9 +9,9 @@ use Rattle.word.specs.Status.{status}
 use Rattle.page.specs.Spans.{wrapped}
 use Rattle.machine.specs.declared.Instruction.{Instruction}
 use Rattle.machine.specs.State.{csOf}
-use Rattle.machine.specs.Machine.{Effect}
+use Rattle.machine.specs.Machine.{Effect, nextOf}
 use Rattle.isa.specs.Fields.{fieldA, fieldB, register, withRegister, withRegisters, registersFrom}
-use Rattle.isa.specs.Effects.{Context, following, nothing}
+use Rattle.isa.specs.Effects.{Context, nothing}
 
 -- the registers become regs, on to the address a, and words are stored
 unfoldable pub rearranged : Context → List ℕ → ℕ → ℕ → List ℕ → Effect
@@ -19,7 +19,7 @@ rearranged v regs a cs ws = record { regs = regs; ic = a; cs = cs; pi = v .pi; w
 
 -- LM: R0 to RN get the words read (5.40)
 unfoldable pub loadedAll : Context → Instruction → List ℕ → Effect
-loadedAll v n ws = rearranged v (withRegisters (v .regs) 0 (take (fieldA (n .first) + 1) ws)) (following v n) (csOf (v .sw)) []
+loadedAll v n ws = rearranged v (withRegisters (v .regs) 0 (take (fieldA (n .first) + 1) ws)) (nextOf n) (csOf (v .sw)) []
 
 -- k words, of which the first has the number i, go to the registers from a + i on, but none to R15
 unfoldable pub poppedFrom : ℕ → List ℕ → ℕ → ℕ → List ℕ → List ℕ
@@ -33,7 +33,7 @@ poppedAll v n ws =
     let k = registersFrom (fieldA (n .first)) (fieldB (n .first)) in
     rearranged v
     (withRegister (poppedFrom (fieldA (n .first)) ws k 0 (v .regs)) 15 (wrapped (register (v .regs) 15 + k)))
-    (following v n)
+    (nextOf n)
     (csOf (v .sw))
     []
 
@@ -51,11 +51,11 @@ movedWord v n x true = nothing v n
 movedWord v n x false =
     let a = fieldA (n .first) in
     let regs = movedOn (v .regs) a (fieldB (n .first)) in
-    rearranged v regs (cond (eqb (register regs (a + 1)) 0) (following v n) (v .ic)) (csOf (v .sw)) (x ∷ [])
+    rearranged v regs (cond (eqb (register regs (a + 1)) 0) (nextOf n) (n .ic)) (csOf (v .sw)) (x ∷ [])
 
 -- STM: R0 to RN are stored (5.50)
 unfoldable pub storedAll : Context → Instruction → Effect
-storedAll v n = rearranged v (v .regs) (following v n) (csOf (v .sw)) (v .regs)
+storedAll v n = rearranged v (v .regs) (nextOf n) (csOf (v .sw)) (v .regs)
 
 -- register j as PSHM stores it as word number i: R15 has fallen by one a word by then
 unfoldable pub pushedWord : List ℕ → ℕ → ℕ → ℕ
@@ -72,7 +72,7 @@ pushedAll v n =
     let k = registersFrom (fieldA (n .first)) (fieldB (n .first)) in
     rearranged v
     (withRegister (v .regs) 15 (wrapped (register (v .regs) 15 + (65536 - k))))
-    (following v n)
+    (nextOf n)
     (csOf (v .sw))
     (pushedFrom (v .regs) (fieldB (n .first)) k 0)
 
@@ -83,4 +83,4 @@ exchangedWords v n =
     let b = fieldB (n .first) in
     let ra = register (v .regs) a in
     let rb = register (v .regs) b in
-    rearranged v (withRegister (withRegister (v .regs) a rb) b ra) (following v n) (status 16 rb) []
+    rearranged v (withRegister (withRegister (v .regs) a rb) b ra) (nextOf n) (status 16 rb) []

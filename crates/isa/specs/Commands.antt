@@ -2,7 +2,7 @@
 -- s is the state, c the core, g the page registers, o the ports, n the instruction. Assumes nothing.
 use Prim.Native.Nat.{ℕ, _+_, _%_}
 use mathlib.Core.Bool.{Bool, true, false, cond}
-use mathlib.Core.List.{List, [], _∷_}
+use mathlib.Core.List.{List, [], _∷_, map}
 use lib.Dec.{eqb}
 use lib.ListN.{getD, set}
 use Rattle.choice.specs.Select.{select, upTo}
@@ -18,7 +18,7 @@ use Rattle.isa.specs.Fields.{fieldA, register, withRegister}
 
 -- the core at the next instruction
 unfoldable pub resumed : Core → Instruction → Core
-resumed c n = withIc c (nextOf c n)
+resumed c n = withIc c (nextOf n)
 
 -- RPI: PI bit k is cleared; k = 1 clears FT too
 unfoldable pub pendingReset : Core → ℕ → Core
@@ -36,26 +36,26 @@ faultsRead s n = withCore (withRa s n (s .core .ft)) (withFt (withPi (s .core) (
 unfoldable pub becomes : List ℕ → List ℕ → State → Supervised
 becomes g o t = done (record { state = t; pages = g; ports = o })
 
--- the timer commands TAS TAH OTA TBS TBH OTB, ITA ITB, with the register k for RA; any other number leaves the state
+-- the timer commands, each with what it does to a state whose register k is RA: TAS TAH OTA TBS TBH OTB, ITA ITB
+abbrev pub timerRules : List (ℕ × (State → ℕ → State))
+timerRules =
+    (0x4008, λ s k. withClock s (withTaOn (s .clock) true)) ∷
+    (0x4009, λ s k. withClock s (withTaOn (s .clock) false)) ∷
+    (0x400A, λ s k. withClock s (withTaOn (withTa (s .clock) (register (s .regs) k)) true)) ∷
+    (0x400C, λ s k. withClock s (withTbOn (s .clock) true)) ∷
+    (0x400D, λ s k. withClock s (withTbOn (s .clock) false)) ∷
+    (0x400E, λ s k. withClock s (withTbOn (withTb (s .clock) (register (s .regs) k)) true)) ∷
+    (0xC00A, λ s k. withRegs s (withRegister (s .regs) k (s .clock .ta))) ∷
+    (0xC00E, λ s k. withRegs s (withRegister (s .regs) k (s .clock .tb))) ∷
+    []
+
+-- a timer command; any other number leaves the state
 unfoldable pub timerCommand : State → ℕ → ℕ → State
-timerCommand s k command =
-    let c = s .clock in
-    let ra = register (s .regs) k in
-    select command
-    ((0x4008, withClock s (withTaOn c true)) ∷
-    (0x4009, withClock s (withTaOn c false)) ∷
-    (0x400A, withClock s (withTaOn (withTa c ra) true)) ∷
-    (0x400C, withClock s (withTbOn c true)) ∷
-    (0x400D, withClock s (withTbOn c false)) ∷
-    (0x400E, withClock s (withTbOn (withTb c ra) true)) ∷
-    (0xC00A, withRegs s (withRegister (s .regs) k (c .ta))) ∷
-    (0xC00E, withRegs s (withRegister (s .regs) k (c .tb))) ∷
-    [])
-    s
+timerCommand s k command = select command timerRules (λ t j. t) s k
 
 -- whether a command is one of these
 unfoldable pub isTimer : ℕ → Bool
-isTimer command = among command (0x4008 ∷ 0x4009 ∷ 0x400A ∷ 0x400C ∷ 0x400D ∷ 0x400E ∷ 0xC00A ∷ 0xC00E ∷ [])
+isTimer command = among command (map (λ r. r .0) timerRules)
 
 -- the other commands on the state alone, from the contents of RA, for the state at the next instruction; the default is an illegal command, FT bit 5
 -- SMK CLIR ENBL DSBL RPI SPI WSW, RMK RPIR RSW RCFR

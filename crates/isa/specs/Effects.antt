@@ -1,28 +1,22 @@
 -- What a user's operation sees of the state, and the shapes of what it does. What a shape does not name it keeps. Assumes nothing.
-use Prim.Native.Nat.{ℕ, _+_}
+use Prim.Native.Nat.{ℕ}
 use mathlib.Core.Bool.{Bool, cond}
 use mathlib.Core.List.{List, [], _∷_}
 use lib.Bits.{bitOr}
-use Rattle.page.specs.Spans.{wrapped}
-use Rattle.decode.specs.Forms.{lengthOf, modeOf}
+use Rattle.decode.specs.Forms.{modeOf}
 use Rattle.machine.specs.declared.Instruction.{Instruction}
 use Rattle.machine.specs.State.{csOf}
-use Rattle.machine.specs.Machine.{Effect}
+use Rattle.machine.specs.Machine.{Effect, nextOf}
 use Rattle.word.specs.Pair.{highWord, lowWord}
 use Rattle.word.specs.Status.{status}
 use Rattle.isa.specs.Fields.{fieldB, withRegisters}
 use Rattle.isa.specs.Addressing.{isRegister}
 
--- registers, IC, SW and PI
+-- registers, SW and PI
 pub record Context : Type 0 where
   pub regs : List ℕ
-  pub ic : ℕ
   pub sw : ℕ
   pub pi : ℕ
-
--- the address of the next instruction
-unfoldable pub following : Context → Instruction → ℕ
-following v n = wrapped (v .ic + lengthOf (n .form))
 
 -- PI bit 4, fixed point overflow
 unfoldable pub fixedOverflow : Bool → ℕ
@@ -42,7 +36,7 @@ effect v k vs a cs bits ws = record { regs = withRegisters (v .regs) k vs; ic = 
 
 -- registers from k on get values, CS is set, PI bits are added
 unfoldable pub result : Context → Instruction → ℕ → List ℕ → ℕ → ℕ → Effect
-result v n k vs cs bits = effect v k vs (following v n) cs bits (three 0 0 0)
+result v n k vs cs bits = effect v k vs (nextOf n) cs bits (three 0 0 0)
 
 -- register k gets a word, and CS its status
 unfoldable pub single : Context → Instruction → ℕ → ℕ → Effect
@@ -62,11 +56,11 @@ tested v n cs = result v n 0 [] cs 0
 
 -- up to three words are stored
 unfoldable pub stored : Context → Instruction → ℕ → ℕ → ℕ → Effect
-stored v n x y z = effect v 0 [] (following v n) (csOf (v .sw)) 0 (three x y z)
+stored v n x y z = effect v 0 [] (nextOf n) (csOf (v .sw)) 0 (three x y z)
 
 -- a word is stored, CS is set, PI bits are added
 unfoldable pub modified : Context → Instruction → ℕ → ℕ → ℕ → Effect
-modified v n x cs bits = effect v 0 [] (following v n) cs bits (three x 0 0)
+modified v n x cs bits = effect v 0 [] (nextOf n) cs bits (three x 0 0)
 
 -- a word replaces the operand, in register RB or in memory
 unfoldable pub replaced : Context → Instruction → ℕ → Effect
@@ -74,8 +68,8 @@ replaced v n x = cond (isRegister (modeOf (n .form))) (loaded v n (fieldB (n .fi
 
 -- on to the derived address where the condition holds, else to the next instruction
 unfoldable pub jumped : Context → Instruction → Bool → Effect
-jumped v n taken = effect v 0 [] (cond taken (n .address) (following v n)) (csOf (v .sw)) 0 (three 0 0 0)
+jumped v n taken = effect v 0 [] (cond taken (n .address) (nextOf n)) (csOf (v .sw)) 0 (three 0 0 0)
 
 -- nothing: on to the next instruction
 unfoldable pub nothing : Context → Instruction → Effect
-nothing v n = effect v 0 [] (following v n) (csOf (v .sw)) 0 (three 0 0 0)
+nothing v n = effect v 0 [] (nextOf n) (csOf (v .sw)) 0 (three 0 0 0)

@@ -21,7 +21,7 @@ classOf operation = cond (eqb operation 30) Executive (cond (select operation pr
 
 -- what a user's operation sees of the processor
 unfoldable pub contextOf : Processor → Context
-contextOf p = record { regs = p .regs; ic = p .core .ic; sw = p .core .sw; pi = p .core .pi }
+contextOf p = record { regs = p .regs; sw = p .core .sw; pi = p .core .pi }
 
 unfoldable pub mil1750 : Isa
 mil1750 =

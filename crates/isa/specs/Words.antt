@@ -16,10 +16,10 @@ use Rattle.float.specs.Words.{mantissa40}
 use Rattle.page.specs.Spans.{wrapped}
 use Rattle.machine.specs.declared.Instruction.{Instruction}
 use Rattle.machine.specs.State.{csOf}
-use Rattle.machine.specs.Machine.{Effect}
+use Rattle.machine.specs.Machine.{Effect, nextOf}
 use Rattle.isa.specs.Fields.{fieldA, fieldB, register}
 use Rattle.isa.specs.Addressing.{operand, doubleOperand, accumulator}
-use Rattle.isa.specs.Effects.{Context, following, fixedOverflow, three, effect, result, single, double, loaded, tested, modified, stored, replaced, jumped, nothing}
+use Rattle.isa.specs.Effects.{Context, fixedOverflow, three, effect, result, single, double, loaded, tested, modified, stored, replaced, jumped, nothing}
 
 -- the double word of register k and the next
 unfoldable pub registerPair : List ℕ → ℕ → ℕ
@@ -85,7 +85,7 @@ called v n ra x a = effect v (fieldA (n .first)) (ra ∷ []) a (csOf (v .sw)) 0 
 
 -- 5.26: RA less one; on to the derived address unless that is zero
 unfoldable pub subtractedAndJumped : Context → Instruction → ℕ → Effect
-subtractedAndJumped v n ra = effect v (fieldA (n .first)) (ra ∷ []) (cond (eqb ra 0) (following v n) (n .address)) (status 16 ra) 0 (three 0 0 0)
+subtractedAndJumped v n ra = effect v (fieldA (n .first)) (ra ∷ []) (cond (eqb ra 0) (nextOf n) (n .address)) (status 16 ra) 0 (three 0 0 0)
 
 -- 5.24 to 5.37, without BEX and LST: JC JS SOJ, BR BEZ BLT BLE BGT BNZ BGE, SJS URS
 unfoldable pub jumpOperation : Context → Instruction → ℕ → ℕ → Effect
@@ -93,9 +93,9 @@ jumpOperation v n x operation =
     let ra = register (v .regs) (fieldA (n .first)) in
     select operation
     ((24, jumped v n (jumpTaken (fieldA (n .first)) (csOf (v .sw)))) ∷
-    (25, called v n (following v n) 0 (n .address)) ∷
+    (25, called v n (nextOf n) 0 (n .address)) ∷
     (26, subtractedAndJumped v n (wrapped (ra + 65535))) ∷
-    (36, called v n (wrapped (ra + 65535)) (following v n) (n .address)) ∷
+    (36, called v n (wrapped (ra + 65535)) (nextOf n) (n .address)) ∷
     (37, called v n (wrapped (ra + 1)) 0 x) ∷
     [])
     (jumped v n (branchTaken operation (csOf (v .sw))))

@@ -109,7 +109,7 @@ module _ (isa : Isa) (p : Processor) (v : View) where
 
 module _ (isa : Isa) (s : State) (v : View) (g o : List ℕ) (Q : System → Type 0)
     (h : keyOf (s .core .sw) ≡ 0 → (i : Instruction) (ws : List ℕ) → OnDone Q (isa .supervise s g o i ws)) where
-  supervised-governed : (i : Instruction) (u : Supervised) → OnDone Q u → Governed Q (supervised (s .core) i u)
+  supervised-governed : (i : Instruction) (u : Supervised) → OnDone Q u → Governed Q (supervised i u)
   unfolding supervised
   supervised-governed i (done r) d = d
   supervised-governed i (refused b) d = tt

@@ -38,11 +38,11 @@ writesOf regs i = spanFrom (i .address) (cond (eqb (operationOf (i .form)) 3) 1 
 
 -- R0 gets the word read, CS 0101; BEEF is stored
 abbrev executeOf : Processor → Instruction → List ℕ → Effect
-executeOf p i ws = record { regs = set (p .regs) 0 (getD ws 0 0); ic = nextOf (p .core) i; cs = 5; pi = p .core .pi; words = set sixteenZeros 0 0xBEEF }
+executeOf p i ws = record { regs = set (p .regs) 0 (getD ws 0 0); ic = nextOf i; cs = 5; pi = p .core .pi; words = set sixteenZeros 0 0xBEEF }
 
 abbrev superviseOf : State → List ℕ → List ℕ → Instruction → List ℕ → Supervised
 superviseOf s g o i ws =
-    cond (ltb (i .address) 0x8000) (done (record { state = withCore s (withHold (withIc (s .core) (nextOf (s .core) i)) true); pages = set g 0 (i .address); ports = set o 0 (i .address) }))
+    cond (ltb (i .address) 0x8000) (done (record { state = withCore s (withHold (withIc (s .core) (nextOf i)) true); pages = set g 0 (i .address); ports = set o 0 (i .address) }))
     (refused (weight 5))
 
 abbrev small : Isa

@@ -12,7 +12,7 @@ use Rattle.machine.specs.declared.Core.{Core}
 use Rattle.machine.specs.declared.Clock.{Clock}
 use Rattle.machine.specs.declared.Vector.{Vector}
 use Rattle.bits.specs.Bits.{weight}
-use Rattle.machine.specs.State.{keyOf, groupOf, withCs, advanced, Processor, joined, processor, withProcessor, withCore, withClock, withIc, withSw, withPi, withFt, withHold, withTa, withTb, withCount}
+use Rattle.machine.specs.State.{keyOf, groupOf, withCs, advanced, Processor, joined, processor, withProcessor, withCore, withClock, withIc, withPi, updated, withFt, withHold, withTa, withTb, withCount}
 use Rattle.machine.specs.Machine.{Machine, machine, Isa, Effect}
 use Rattle.machine.specs.Instructions.{Action, enter, call, fail, affect, govern, View, view, instructed}
 use Rattle.machine.specs.Entries.{chosen, vectorOf, callOf, linked, linkStored, refusalOf, arrived}
@@ -33,7 +33,7 @@ faulted c b a = withFt (withPi (withIc c a) (bitOr (c .pi) (weight 1))) (bitOr (
 
 -- a user's effect: of SW it changes CS alone
 unfoldable pub affected : Processor → Effect → Processor
-affected p e = joined (withPi (withSw (withIc (p .core) (e .ic)) (withCs (p .core .sw) (e .cs))) (e .pi)) (e .regs)
+affected p e = joined (updated (p .core) (e .ic) (withCs (p .core .sw) (e .cs)) (e .pi)) (e .regs)
 
 -- its stores
 unfoldable pub stored : Core → List ℕ → List ℕ → Effect → Span → List ℕ

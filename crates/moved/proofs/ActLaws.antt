@@ -14,7 +14,7 @@ use Rattle.machine.specs.declared.State.{State}
 use Rattle.machine.specs.declared.Core.{Core}
 use Rattle.machine.specs.declared.Instruction.{Instruction}
 use Rattle.machine.specs.declared.Prepared.the-variants.{Ready}
-use Rattle.machine.specs.State.{keyOf, groupOf, advanced, withCore}
+use Rattle.machine.specs.State.{keyOf, groupOf, withCore}
 use Rattle.machine.specs.Machine.{Became, nextOf, spanFrom}
 use Rattle.machine.specs.Instructions.{fail, view, both, operated, accessed, carried}
 use Rattle.machine.specs.Step.{faulted, perform}
@@ -40,8 +40,8 @@ module _ (s : State) (m g o : List ℕ) (n : Instruction) (from to : Span) (v : 
   unfolding carried accessed mil1750
   carried-clear h = rw (agreed Clear h) refl
 
-  pub carried-fault : (b : ℕ) → v ≡ Fault b → fail b (wrapped (s .core .ic + lengthOf (n .form))) ≡ carried mil1750 s g o (view (s .core) m g) (Ready n)
-  unfolding carried accessed mil1750 nextOf advanced
+  pub carried-fault : (b : ℕ) → v ≡ Fault b → fail b (wrapped (n .ic + lengthOf (n .form))) ≡ carried mil1750 s g o (view (s .core) m g) (Ready n)
+  unfolding carried accessed mil1750 nextOf
   carried-fault b h = rw (agreed (Fault b) h) refl
 
 -- ---- at most three words, gathered
@@ -66,8 +66,8 @@ module _ (s : State) (m g : List ℕ) (n : Instruction) (key group : ℕ) (d : k
   carried-read o h = rw (all-gathered _ _ v gathers h .0) refl
 
   pub carried-denied : (o : List ℕ) → v .clear ≡ false
-      → fail (v .fault) (wrapped (s .core .ic + lengthOf (n .form))) ≡ carried mil1750 s g o (view (s .core) m g) (Ready n)
-  unfolding carried both accessed mil1750 nextOf advanced
+      → fail (v .fault) (wrapped (n .ic + lengthOf (n .form))) ≡ carried mil1750 s g o (view (s .core) m g) (Ready n)
+  unfolding carried both accessed mil1750 nextOf
   carried-denied o h = rw (denied-gathered _ _ v gathers h) refl
 
 -- v is the verdict that the code came to on the stores, which go to a span
@@ -83,9 +83,9 @@ module _ (s : State) (m g o : List ℕ) (n : Instruction) (key group : ℕ) (to 
   accessed-clear h = rw (on-stores Clear h) refl
 
   pub accessed-fault : (b : ℕ) → v ≡ Fault b
-      → fail b (wrapped (s .core .ic + lengthOf (n .form)))
+      → fail b (wrapped (n .ic + lengthOf (n .form)))
       ≡ accessed mil1750 s g o (view (s .core) m g) n (checked (keyOf (s .core .sw)) (groupOf (s .core .sw)) g (length m) (writesOf (s .regs) n) Write)
-  unfolding accessed nextOf advanced mil1750
+  unfolding accessed nextOf mil1750
   accessed-fault b h = rw (on-stores (Fault b) h) refl
 
 -- ---- a fault

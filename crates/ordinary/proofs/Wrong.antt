@@ -23,7 +23,7 @@ before = let s = stateAt (tableOf (λ k. 0x1000 + k) 0 16) 0x0100 0x4030 in join
 
 -- INCM by one of the word at address 1, which is 7FFF
 abbrev increment : Instruction
-increment = record { form = 0x2638; first = 0xA300; second = 1; address = 1 }
+increment = record { ic = 0x0100; form = 0x2638; first = 0xA300; second = 1; address = 1 }
 
 abbrev memory : List ℕ
 memory = 10 ∷ 0x7FFF ∷ 12 ∷ []

@@ -24,47 +24,39 @@ use gather::store_words;
 use machine::Core;
 use machine::Instruction;
 use page::Span;
+use status_word::update;
 use status_word::with_cs;
 
 // What an operation without a way does, by ranges of paragraphs; x, y and z are the words read. Bits, shifts, loads and stores have two ranges each: a function
 // that is called twice stays one of its own, and the step without them is small enough to be put inline as a whole. To join them costs 15 to 57 instructions a
 // step on the benchmark's programs.
-fn ordinary(
-    regs: &[u16; 16],
-    ic: u16,
-    sw: u16,
-    pi: u16,
-    n: Instruction,
-    x: u16,
-    y: u16,
-    z: u16,
-) -> Work
+fn ordinary(regs: &[u16; 16], sw: u16, pi: u16, n: Instruction, x: u16, y: u16, z: u16) -> Work
     requires { ⌜ wayOf (operationOf (n .form)) ≡ 0 ⌝ }
-    ensures { λ r. ⌜ worked (now (regs .entry)) r ≡ ordinary (context (now (regs .entry)) ic sw pi) n x y z (operationOf (n .form)) ⌝ }
+    ensures { λ r. ⌜ worked (now (regs .entry)) r ≡ ordinary (context (now (regs .entry)) sw pi) n x y z (operationOf (n .form)) ⌝ }
 {
     match n.form % 256 {
-        0..=5 => bit_operation(regs, ic, sw, pi, n, x),
-        6..=9 => bit_operation(regs, ic, sw, pi, n, x),
-        10..=17 => shift_operation(regs, ic, sw, pi, n),
-        18..=23 => shift_operation(regs, ic, sw, pi, n),
-        24..=37 => jump_operation(regs, ic, sw, pi, n, x),
-        38..=41 => load_operation(regs, ic, sw, pi, n, x, y, z),
-        42..=44 => load_operation(regs, ic, sw, pi, n, x, y, z),
-        45..=49 => store_operation(regs, ic, sw, pi, n, x),
-        50..=54 => store_operation(regs, ic, sw, pi, n, x),
-        55..=59 => integer_operation(regs, ic, sw, pi, n, x, y),
-        60..=62 => float_operation(regs, ic, sw, pi, n, x, y, z),
-        63..=67 => integer_operation(regs, ic, sw, pi, n, x, y),
-        68..=70 => float_operation(regs, ic, sw, pi, n, x, y, z),
-        71..=73 => integer_operation(regs, ic, sw, pi, n, x, y),
-        74..=75 => float_operation(regs, ic, sw, pi, n, x, y, z),
-        76..=78 => integer_operation(regs, ic, sw, pi, n, x, y),
-        79..=80 => float_operation(regs, ic, sw, pi, n, x, y, z),
-        81..=84 => logical_operation(regs, ic, sw, pi, n, x, y),
-        85..=88 => float_operation(regs, ic, sw, pi, n, x, y, z),
-        89..=93 => logical_operation(regs, ic, sw, pi, n, x, y),
-        94..=95 => float_operation(regs, ic, sw, pi, n, x, y, z),
-        _ => nothing(ic, sw, pi, n),
+        0..=5 => bit_operation(regs, sw, pi, n, x),
+        6..=9 => bit_operation(regs, sw, pi, n, x),
+        10..=17 => shift_operation(regs, sw, pi, n),
+        18..=23 => shift_operation(regs, sw, pi, n),
+        24..=37 => jump_operation(regs, sw, pi, n, x),
+        38..=41 => load_operation(regs, sw, pi, n, x, y, z),
+        42..=44 => load_operation(regs, sw, pi, n, x, y, z),
+        45..=49 => store_operation(regs, sw, pi, n, x),
+        50..=54 => store_operation(regs, sw, pi, n, x),
+        55..=59 => integer_operation(regs, sw, pi, n, x, y),
+        60..=62 => float_operation(regs, sw, pi, n, x, y, z),
+        63..=67 => integer_operation(regs, sw, pi, n, x, y),
+        68..=70 => float_operation(regs, sw, pi, n, x, y, z),
+        71..=73 => integer_operation(regs, sw, pi, n, x, y),
+        74..=75 => float_operation(regs, sw, pi, n, x, y, z),
+        76..=78 => integer_operation(regs, sw, pi, n, x, y),
+        79..=80 => float_operation(regs, sw, pi, n, x, y, z),
+        81..=84 => logical_operation(regs, sw, pi, n, x, y),
+        85..=88 => float_operation(regs, sw, pi, n, x, y, z),
+        89..=93 => logical_operation(regs, sw, pi, n, x, y),
+        94..=95 => float_operation(regs, sw, pi, n, x, y, z),
+        _ => nothing(sw, pi, n),
     }
 }
 
@@ -86,12 +78,8 @@ pub fn work(
         × (now (memory .exit) ≡ spec.stored core (now (memory .entry)) (now (pages .entry))
         (ordinary (contextOf (joined core (now (regs .entry)))) n x y z (operationOf (n .form))) span) ⌝ }
 {
-    let e = ordinary(regs, core.ic, core.sw, core.pi, n, x, y, z);
+    let e = ordinary(regs, core.sw, core.pi, n, x, y, z);
     apply(regs, e);
     store_words(core.sw, memory, pages, span, e.w0, e.w1, e.w2);
-    let mut t = core;
-    t.ic = e.ic;
-    t.sw = with_cs(core.sw, e.cs);
-    t.pi = e.pi;
-    t
+    update(core, e.ic, with_cs(core.sw, e.cs), e.pi)
 }

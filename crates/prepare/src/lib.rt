@@ -53,10 +53,11 @@ fn permit(class: Class, key: u16) -> bool
 }
 
 // The instruction is ready.
-fn ready(form: u16, first: u16, second: u16, address: u16) -> Prepared
-    ensures { λ r. ⌜ r ≡ readyAt form first second address ⌝ }
+fn ready(core: Core, form: u16, first: u16, second: u16, address: u16) -> Prepared
+    ensures { λ r. ⌜ r ≡ readyAt core form first second address ⌝ }
 {
     Prepared::Ready(Instruction {
+        ic: core.ic,
         form,
         first,
         second,
@@ -69,7 +70,7 @@ fn redirect(core: Core, form: u16, w: u16, x: u16, got: Got) -> Prepared
     ensures { λ r. ⌜ r ≡ redirected core form w x got ⌝ }
 {
     match got {
-        Got::Word(a) => ready(form, w, x, a),
+        Got::Word(a) => ready(core, form, w, x, a),
         Got::Missed(b) => Prepared::Denied(b, advance(core.ic, form / 4096)),
     }
 }
@@ -95,7 +96,7 @@ fn derive(
         let got = read_word(Access::Read, key, group, memory, pages, a);
         return redirect(core, form, w, x, got);
     }
-    ready(form, w, x, a)
+    ready(core, form, w, x, a)
 }
 
 // The second word, and 0 where there is none. In one page it follows the first, whose physical address is at; only where the first ends

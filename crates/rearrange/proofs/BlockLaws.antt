@@ -17,7 +17,8 @@ use Rattle.isa.specs.Addressing.{inMemory}
 use Rattle.isa.specs.Accesses.{atOperand, movedSpan}
 use Rattle.machine.specs.declared.Instruction.{Instruction}
 use Rattle.machine.specs.State.{csOf}
-use Rattle.isa.specs.Effects.{Context, following, effect, nothing, three}
+use Rattle.machine.specs.Machine.{nextOf}
+use Rattle.isa.specs.Effects.{Context, effect, nothing, three}
 use Rattle.isa.specs.Blocks.{rearranged, poppedFrom, movedWord, pushedWord, pushedFrom}
 
 -- ---- LM: n words are left, the first has the number q and goes to register i
@@ -84,7 +85,7 @@ module _ (regs : List ℕ) (b : ℕ) where
 
 -- ---- MOV with a count of zero
 
-pub nothing-is : (v : Context) (n : Instruction) → nothing v n ≡ rearranged v (v .regs) (following v n) (csOf (v .sw)) (three 0 0 0)
+pub nothing-is : (v : Context) (n : Instruction) → nothing v n ≡ rearranged v (v .regs) (nextOf n) (csOf (v .sw)) (three 0 0 0)
 unfolding nothing effect withRegisters rearranged
 nothing-is v n = rw (or-zero-r (v .pi)) refl
 

@@ -8,10 +8,10 @@ use Rattle.choice.specs.Table.{tableOf}
 use Rattle.choice.proofs.Rows.{Row, some, hold}
 use Rattle.machine.specs.declared.Instruction.{Instruction}
 use Rattle.machine.specs.State.{Processor, processor, csOf}
+use Rattle.machine.specs.Machine.{nextOf}
 use Rattle.machine.specs.Step.{affected}
 use Rattle.machine.proofs.Opened.{machinery}
 use Rattle.machine.proofs.Samples.{stateAt}
-use Rattle.isa.specs.Effects.{following}
 use Rattle.isa.specs.Blocks.{rearranged, loadedAll, poppedAll, movedWord, pushedAll}
 use Rattle.isa.specs.Mil1750.{contextOf}
 use Rattle.isa.specs.Execute.{executed}
@@ -24,7 +24,7 @@ p = processor (stateAt (set (tableOf (λ k. 100 + k) 0 16) 3 0x8003) 0x00FF 0x40
 
 -- an instruction of a form with a first word
 abbrev instruction : ℕ → ℕ → Instruction
-instruction f w = record { form = f; first = w; second = 0; address = 0 }
+instruction f w = record { ic = 0x00FF; form = f; first = w; second = 0; address = 0 }
 
 -- IC, CS and the registers a, b and c of a processor
 abbrev shown : ℕ → ℕ → ℕ → Processor → List ℕ
@@ -34,7 +34,7 @@ pub rows : List Row
 unfolding words machinery instructions
 rows =
     -- operation::proceed: on by one word of two; CS cleared
-    some (shown 0 1 2 (affected p (rearranged (contextOf p) (p .regs) (following (contextOf p) (instruction 0x2632 0x9910)) (csOf (p .core .sw)) [])))
+    some (shown 0 1 2 (affected p (rearranged (contextOf p) (p .regs) (nextOf (instruction 0x2632 0x9910)) (csOf (p .core .sw)) [])))
     (0x0101 ∷ 4 ∷ 100 ∷ 101 ∷ 102 ∷ []) (0x0100 ∷ 4 ∷ 100 ∷ 101 ∷ 102 ∷ []) (0x0101 ∷ 0 ∷ 100 ∷ 101 ∷ 102 ∷ [])
     -- operation::load_multiple: one register too few; the registers from R1 on
     ∷ some (shown 0 1 2 (affected p (loadedAll (contextOf p) (instruction 0x2628 0x8910) (drop 1 (6 ∷ 7 ∷ 8 ∷ 9 ∷ [])))))

@@ -7,9 +7,9 @@ ghost use lib.Dec.{eqb};
 ghost use lib.ListN.{length, drop};
 ghost use Rattle.decode.specs.Forms.{operationOf};
 ghost use Rattle.machine.specs.State.{csOf, joined};
+ghost use Rattle.machine.specs.Machine.{nextOf};
 ghost use Rattle.machine.specs.Step.{affected};
 ghost use Rattle.isa.specs.Fields.{fieldA, fieldB, register, registersFrom};
-ghost use Rattle.isa.specs.Effects.{following};
 ghost use Rattle.isa.specs.Blocks.{rearranged, loadedAll, poppedAll, movedWord, pushedAll, exchangedWords};
 ghost use Rattle.isa.specs.Mil1750.{contextOf};
 ghost use Rattle.isa.specs.Execute.{executed};
@@ -25,23 +25,22 @@ use access::fields::get;
 use effect::cs_of;
 use machine::Core;
 use machine::Instruction;
+use status_word::update;
+use status_word::with_cs;
 
 // IC and CS are set, with any registers and words to store.
 fn settle(core: Core, ic: u16, cs: u16) -> Core
     ensures { λ r. ⌜ ((regs after ws : List ℕ) → joined r after ≡ affected (joined core regs) (rearranged (contextOf (joined core regs)) after ic cs ws)) ⌝ }
 {
-    let mut t = core;
-    t.ic = ic;
-    t.sw = cs % 16 * 4096 + core.sw % 4096;
-    t
+    update(core, ic, with_cs(core.sw, cs), core.pi)
 }
 
 // On to the next instruction; CS is kept.
 pub fn proceed(core: Core, n: Instruction) -> Core
     ensures { λ r. ⌜ ((regs after ws : List ℕ) → joined r after
-        ≡ affected (joined core regs) (rearranged (contextOf (joined core regs)) after (following (contextOf (joined core regs)) n) (csOf (core .sw)) ws)) ⌝ }
+        ≡ affected (joined core regs) (rearranged (contextOf (joined core regs)) after (nextOf n) (csOf (core .sw)) ws)) ⌝ }
 {
-    settle(core, effect::following(core.ic, n.form), cs_of(core.sw))
+    settle(core, effect::following(n), cs_of(core.sw))
 }
 
 // LM (5.40) of the words from word number p on, which there are.
@@ -87,7 +86,7 @@ pub fn move_word(core: Core, regs: &mut [u16; 16], n: Instruction) -> Core
     if get(regs, a + 1) == 0 {
         return proceed(core, n);
     }
-    settle(core, core.ic, cs_of(core.sw))
+    settle(core, n.ic, cs_of(core.sw))
 }
 
 // PSHM (5.54).
@@ -103,7 +102,7 @@ fn exchange_words(core: Core, regs: &mut [u16; 16], n: Instruction) -> Core
     ensures { λ r. ⌜ joined r (now (regs .exit)) ≡ affected (joined core (now (regs .entry))) (exchangedWords (contextOf (joined core (now (regs .entry)))) n) ⌝ }
 {
     let cs = exchange(regs, n);
-    settle(core, effect::following(core.ic, n.form), cs)
+    settle(core, effect::following(n), cs)
 }
 
 // Any of the operations. Its caller has found it to be one, and its buffer has sixteen words.

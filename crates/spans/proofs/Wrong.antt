@@ -22,7 +22,7 @@ regs = tableOf (λ k. 0x1000 + k) 0 16
 
 -- an instruction by its form and its first word, with the address 200
 abbrev coded : ℕ → ℕ → Instruction
-coded form first = record { form = form; first = first; second = 0; address = 0x0200 }
+coded form first = record { ic = 0x0100; form = form; first = first; second = 0; address = 0x0200 }
 
 pub rows : List Row
 unfolding wrapped instructions

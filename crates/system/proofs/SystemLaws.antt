@@ -44,13 +44,13 @@ module _ (s : State) (m g o : List ℕ) (n : Instruction) where
       let none = none-checked (keyOf (s .core .sw)) (groupOf (s .core .sw)) g (length m) (n .address) in
       carried-clear s m g o n _ _ _ refl refl refl (rw (i, j, none Read (inMemory (modeOf (n .form))), none Write (inMemory (modeOf (n .form)))) refl)
 
-  pub xio-carried : wayOf (operationOf (n .form)) ≡ 6 → supervised (s .core) n (transferred s g o n) ≡ carried mil1750 s g o (view (s .core) m g) (Ready n)
+  pub xio-carried : wayOf (operationOf (n .form)) ≡ 6 → supervised n (transferred s g o n) ≡ carried mil1750 s g o (view (s .core) m g) (Ready n)
   unfolding operated mil1750 classOf privilegedOperations supervisedBy
   xio-carried e =
       let p = way-system n 6 e (omega arith) in
       let c : classOf (operationOf (n .form)) ≡ Supervisor = ap classOf p in
       let b : eqb (operationOf (n .form)) 35 ≡ false = ap (λ (j : ℕ). eqb j 35) p in
-      let k : supervised (s .core) n (transferred s g o n) ≡ does = rw (c, b) refl in
+      let k : supervised n (transferred s g o n) ≡ does = rw (c, b) refl in
       k ∙ unasked (way-reads n 6 0 0 e (omega arith) refl refl refl refl refl (s .regs)) (way-writes n 6 0 0 e (omega arith) refl refl refl refl refl (s .regs))
 
   pub bex-carried : wayOf (operationOf (n .form)) ≡ 7 → call (n .first % 16) ≡ carried mil1750 s g o (view (s .core) m g) (Ready n)
@@ -70,7 +70,7 @@ module _ (s : State) (m g o : List ℕ) (n : Instruction) (e : wayOf (operationO
       rw (way-writes n 8 3 0 e (omega arith) refl refl refl refl refl (s .regs))
       (none-checked (keyOf (s .core .sw)) (groupOf (s .core .sw)) g (length m) (n .address) Write (inMemory (modeOf (n .form))))
 
-  pub lst-denied : v .clear ≡ false → fail (v .fault) (wrapped (s .core .ic + lengthOf (n .form))) ≡ carried mil1750 s g o (view (s .core) m g) (Ready n)
+  pub lst-denied : v .clear ≡ false → fail (v .fault) (wrapped (n .ic + lengthOf (n .form))) ≡ carried mil1750 s g o (view (s .core) m g) (Ready n)
   unfolding atOperand
   lst-denied h = carried-denied s m g n key group d f _ _ v reads i o h
 

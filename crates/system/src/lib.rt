@@ -43,13 +43,13 @@ fn govern(
 ) -> Core
     requires { ⌜ (length (now pages) ≡ 512) × (length (now ports) ≡ 1024) × (isTimer (n .address) ≡ false) ⌝ }
     ensures { λ r. ⌜ ((s : State) (memory : List ℕ) → Became (perform (withProcessor s (joined core (now (regs .entry)))) memory (now (pages .entry)) (now (ports .entry))
-        (spec.supervised core n (transferred (withProcessor s (joined core (now (regs .entry)))) (now (pages .entry)) (now (ports .entry)) n)))
+        (spec.supervised n (transferred (withProcessor s (joined core (now (regs .entry)))) (now (pages .entry)) (now (ports .entry)) n)))
         (withProcessor s (joined r (now (regs .exit)))) memory (now (pages .exit)) (now (ports .exit))) ⌝ }
 {
     let governed = transfer(core, regs, pages, ports, n);
     match governed {
         Governed::Done(t) => t,
-        Governed::Refused(b) => fault(core, b, advance(core.ic, n.form / 4096)),
+        Governed::Refused(b) => fault(core, b, advance(n.ic, n.form / 4096)),
     }
 }
 
@@ -118,5 +118,5 @@ pub fn load(
     if words.clear {
         return unsettled(load_status(core, words.x, words.y, words.z));
     }
-    deny(core, words.fault, advance(core.ic, n.form / 4096))
+    deny(core, words.fault, advance(n.ic, n.form / 4096))
 }

@@ -1,4 +1,4 @@
--- Written by tools/prove.py from answers/instruct.py: answer d7945e6f8032, proof d56a7619abe2.
+-- Written by tools/prove.py from answers/instruct.py: answer fb609e40ed21, proof 36c1e900e2b0.
 -- `instruct::carry_direct` meets its contract. Assumes nothing.
 use Rattle.instruct.proofs.UserLaws.{became-worked, settled-by}
 use Rattle.instruct.proofs.carry_direct.Statement.{statement}
@@ -16,7 +16,7 @@ direct-requires c κs = (c .before .before .before .before .pre .0, c .before .b
 
 returns : tie.Need-returns
 unfolding operated mil1750 contextOf
-returns c = λ ports. (λ s. rw (c .weighed .ensures, timer-none _ _, ← carried-clear (withProcessor s (joined (c .before .before .before .before .before .before .before .before .before .args .core) (c .before .before .before .before .before .before .before .before .before .args .regs .now))) (c .before .before .before .before .before .before .before .before .before .args .memory .now) (c .before .before .before .before .before .before .before .before .before .args .pages .now) ports (c .before .before .before .before .before .before .before .before .before .args .n) _ _ _ refl refl refl (c .before .before .before .before .direct .ensures .when-clear (c .before .if1 .taken) .admitted), c .before .before .before .before .direct .ensures .by-user) (became-worked (withProcessor s (joined (c .before .before .before .before .before .before .before .before .before .args .core) (c .before .before .before .before .before .before .before .before .before .args .regs .now))) (c .before .before .before .before .before .before .before .before .before .args .memory .now) (c .before .before .before .before .before .before .before .before .before .args .pages .now) ports (c .before .before .before .before .before .before .before .before .before .args .n) _ _ _ (c .before .before .before .before .direct .ensures .when-clear (c .before .if1 .taken) .worked)), settled-by (c .before .before .before .before .before .before .before .before .before .args .core) _ _ (c .before .before .before .before .before .before .before .before .before .args .regs .now) _ _ (c .weighed .ensures) (c .before .before .before .before .direct .ensures .when-clear (c .before .if1 .taken) .worked .processor-is))
+returns c = λ ports. (λ s. rw (c .weighed .ensures, timer-none _ _, c .before .update .ensures, ← carried-clear (withProcessor s (joined (c .before .before .before .before .before .before .before .before .before .before .args .core) (c .before .before .before .before .before .before .before .before .before .before .args .regs .now))) (c .before .before .before .before .before .before .before .before .before .before .args .memory .now) (c .before .before .before .before .before .before .before .before .before .before .args .pages .now) ports (c .before .before .before .before .before .before .before .before .before .before .args .n) _ _ _ refl refl refl (c .before .before .before .before .before .direct .ensures .when-clear (c .before .before .if1 .taken) .admitted), c .before .before .before .before .before .direct .ensures .by-user) (became-worked (withProcessor s (joined (c .before .before .before .before .before .before .before .before .before .before .args .core) (c .before .before .before .before .before .before .before .before .before .before .args .regs .now))) (c .before .before .before .before .before .before .before .before .before .before .args .memory .now) (c .before .before .before .before .before .before .before .before .before .before .args .pages .now) ports (c .before .before .before .before .before .before .before .before .before .before .args .n) _ _ _ (c .before .before .before .before .before .direct .ensures .when-clear (c .before .before .if1 .taken) .worked)), settled-by (c .before .before .before .before .before .before .before .before .before .before .args .core) _ _ (c .before .before .before .before .before .before .before .before .before .before .args .regs .now) _ _ (rw (← c .before .update .ensures) (c .weighed .ensures)) (c .before .before .before .before .before .direct .ensures .when-clear (c .before .before .if1 .taken) .worked .processor-is))
 
 returns-2 : tie.Need-returns-2
 unfolding operated mil1750 contextOf
@@ -25,5 +25,5 @@ returns-2 c = let k = c .before .before .before .before .before .before .direct 
 pub carry-direct-spec : {M : Type 1} → statement M
 carry-direct-spec =
     tie.close
-    (tie.spec direct-requires (λ c κs. search needs) (λ c. search needs) returns (λ c κs. search needs) (λ c κs. search needs) (λ c. search needs)
-    returns-2)
+    (tie.spec direct-requires (λ c κs. search needs) (λ c κs. search needs) (λ c. search needs) returns (λ c κs. search needs) (λ c κs. search needs)
+    (λ c. search needs) returns-2)

@@ -1,8 +1,7 @@
--- Written by tools/prove.py from answers/ordinary.py: answer 0cabf5838469, proof 4e425bc9430f.
+-- Written by tools/prove.py from answers/ordinary.py: answer 392d80cf833d, proof 6b0721412cc5.
 -- `ordinary::work` meets its contract. Assumes nothing.
 use Rattle.effect.specs.Work.{worked}
 use Rattle.isa.specs.Mil1750.{contextOf}
-use Rattle.machine.specs.State.{withPi, withSw, withIc}
 use Rattle.machine.specs.Step.{affected, stored}
 use Rattle.ordinary.proofs.work.Statement.{statement}
 use Rattle.ordinary.proofs.work.Tie as tie
@@ -13,10 +12,11 @@ ordinary-requires : tie.Need-ordinary-requires
 ordinary-requires c κs = c .before .before .before .pre .2
 
 returns : tie.Need-returns
-unfolding affected stored worked contextOf withPi withSw withIc
-returns c = (rw (← c .before .before .before .before .before .before .before .ordinary .ensures, ← c .before .before .before .before .before .apply .ensures, ← c .with-cs .ensures) refl, rw (← c .before .before .before .before .before .before .before .ordinary .ensures) (c .before .before .before .store-words .ensures))
+unfolding affected stored worked contextOf
+returns c = (rw (← c .before .before .before .before .before .before .before .before .ordinary .ensures, ← c .before .before .before .before .before .before .apply .ensures, c .update .ensures, ← c .before .with-cs .ensures) refl, rw (← c .before .before .before .before .before .before .before .before .ordinary .ensures) (c .before .before .before .before .store-words .ensures))
 
 pub work-spec : {M : Type 1} → statement M
 work-spec =
     tie.close
-    (tie.spec ordinary-requires (λ c κs. search needs) (λ c κs. search needs) (λ c κs. search needs) (λ c. search needs) returns)
+    (tie.spec ordinary-requires (λ c κs. search needs) (λ c κs. search needs) (λ c κs. search needs) (λ c κs. search needs) (λ c. search needs)
+    returns)

@@ -1,9 +1,10 @@
--- Written by tools/prove.py from answers/accumulate.py: answer 415b4fd6f491, proof e765be6e4e49.
+-- Written by tools/prove.py from answers/accumulate.py: answer 2ac88d82c2c5, proof fed47bd10a6c.
 -- `accumulate::single::into_single` meets its contract. Assumes nothing.
 use Rattle.accumulate.proofs.EndLaws.{words-first, read-done, read-refused, single-after}
 use Rattle.accumulate.proofs.WayLaws.{way-user, way-reads, way-writes, way-count, singled, does-single}
 use Rattle.accumulate.proofs.single.into_single.Statement.{statement}
 use Rattle.accumulate.proofs.single.into_single.Tie as tie
+use Rattle.accumulate.specs.Ended.{endedCore}
 use Rattle.fixed.specs.Fixed.{single}
 use Rattle.isa.specs.Accesses.{atOperand}
 use Rattle.isa.specs.Addressing.{accumulator}
@@ -21,7 +22,7 @@ read-operand-requires c κs = (c .before .before .pre .0, c .before .before .pre
 
 returns : tie.Need-returns
 unfolding atOperand contextOf single
-returns c = let o : c .before .before .before .before .before .combine16 .result ≡ single (singled (c .before .before .before .before .before .before .before .before .before .before .before .before .before .before .before .before .args .n) (contextOf (joined (c .before .before .before .before .before .before .before .before .before .before .before .before .before .before .before .before .args .core) (c .before .before .before .before .before .before .before .before .before .before .before .before .before .before .before .before .args .regs .now))) (c .before .before .before .before .before .before .before .before .before .before .before .before .before .read-operand .result .x)) = rw (← c .before .before .before .before .before .before .before .before .before .before .before .accumulator-of .ensures .0, ← c .before .before .before .before .before .before .before .before .get .ensures, ← c .before .before .before .before .before .before .operand-of .ensures) (c .before .before .before .before .before .combine16 .ensures) in let w = words-first (joined (c .before .before .before .before .before .before .before .before .before .before .before .before .before .before .before .before .args .core) (c .before .before .before .before .before .before .before .before .before .before .before .before .before .before .before .before .args .regs .now)) (c .before .before .before .before .before .before .before .before .before .before .before .before .before .before .before .before .args .memory .now) (c .before .before .before .before .before .before .before .before .before .before .before .before .before .before .before .before .args .pages .now) (c .before .before .before .before .before .before .before .before .before .before .before .before .before .before .before .before .args .n) (way-user (c .before .before .before .before .before .before .before .before .before .before .before .before .before .before .before .before .args .n) 1 (c .before .before .before .before .before .before .before .before .before .before .before .before .before .before .before .before .pre .4) (omega arith)) _ _ 1 (c .before .before .before .before .before .before .before .before .before .before .before .before .before .before .before .before .pre .1) (c .before .before .before .before .before .before .before .before .before .before .before .before .before .before .before .before .pre .2) (way-reads (c .before .before .before .before .before .before .before .before .before .before .before .before .before .before .before .before .args .n) 1 1 0 (c .before .before .before .before .before .before .before .before .before .before .before .before .before .before .before .before .pre .4) (omega arith) refl refl refl refl refl (c .before .before .before .before .before .before .before .before .before .before .before .before .before .before .before .before .args .regs .now)) (way-writes (c .before .before .before .before .before .before .before .before .before .before .before .before .before .before .before .before .args .n) 1 1 0 (c .before .before .before .before .before .before .before .before .before .before .before .before .before .before .before .before .pre .4) (omega arith) refl refl refl refl refl (c .before .before .before .before .before .before .before .before .before .before .before .before .before .before .before .before .args .regs .now)) _ (c .before .before .before .before .before .before .before .before .before .before .before .before .before .read-operand .ensures 1 (way-count (c .before .before .before .before .before .before .before .before .before .before .before .before .before .before .before .before .args .n) 1 (c .before .before .before .before .before .before .before .before .before .before .before .before .before .before .before .before .pre .4) (omega arith) 1 refl)) (c .before .before .before .before .before .before .before .before .before .before .before .before .if1 .taken) in read-done (joined (c .before .before .before .before .before .before .before .before .before .before .before .before .before .before .before .before .args .core) (c .before .before .before .before .before .before .before .before .before .before .before .before .before .before .before .before .args .regs .now)) (c .before .before .before .before .before .before .before .before .before .before .before .before .before .before .before .before .args .memory .now) (c .before .before .before .before .before .before .before .before .before .before .before .before .before .before .before .before .args .pages .now) (c .before .before .before .before .before .before .before .before .before .before .before .before .before .before .before .before .args .n) (way-user (c .before .before .before .before .before .before .before .before .before .before .before .before .before .before .before .before .args .n) 1 (c .before .before .before .before .before .before .before .before .before .before .before .before .before .before .before .before .pre .4) (omega arith)) _ _ 1 (c .before .before .before .before .before .before .before .before .before .before .before .before .before .before .before .before .pre .1) (c .before .before .before .before .before .before .before .before .before .before .before .before .before .before .before .before .pre .2) (way-reads (c .before .before .before .before .before .before .before .before .before .before .before .before .before .before .before .before .args .n) 1 1 0 (c .before .before .before .before .before .before .before .before .before .before .before .before .before .before .before .before .pre .4) (omega arith) refl refl refl refl refl (c .before .before .before .before .before .before .before .before .before .before .before .before .before .before .before .before .args .regs .now)) (way-writes (c .before .before .before .before .before .before .before .before .before .before .before .before .before .before .before .before .args .n) 1 1 0 (c .before .before .before .before .before .before .before .before .before .before .before .before .before .before .before .before .pre .4) (omega arith) refl refl refl refl refl (c .before .before .before .before .before .before .before .before .before .before .before .before .before .before .before .before .args .regs .now)) _ (c .before .before .before .before .before .before .before .before .before .before .before .before .before .read-operand .ensures 1 (way-count (c .before .before .before .before .before .before .before .before .before .before .before .before .before .before .before .before .args .n) 1 (c .before .before .before .before .before .before .before .before .before .before .before .before .before .before .before .before .pre .4) (omega arith) 1 refl)) (singleOutcome (contextOf (joined (c .before .before .before .before .before .before .before .before .before .before .before .before .before .before .before .before .args .core) (c .before .before .before .before .before .before .before .before .before .before .before .before .before .before .before .before .args .regs .now))) (c .before .before .before .before .before .before .before .before .before .before .before .before .before .before .before .before .args .n) (accumulator (c .before .before .before .before .before .before .before .before .before .before .before .before .before .before .before .before .args .n)) (singled (c .before .before .before .before .before .before .before .before .before .before .before .before .before .before .before .before .args .n) (contextOf (joined (c .before .before .before .before .before .before .before .before .before .before .before .before .before .before .before .before .args .core) (c .before .before .before .before .before .before .before .before .before .before .before .before .before .before .before .before .args .regs .now))) (c .before .before .before .before .before .before .before .before .before .before .before .before .before .read-operand .result .x))) _ _ _ (c .before .before .before .before .before .before .before .before .before .before .before .before .if1 .taken) (does-single (c .before .before .before .before .before .before .before .before .before .before .before .before .before .before .before .before .args .n) (c .before .before .before .before .before .before .before .before .before .before .before .before .before .before .before .before .pre .4) _ _ _ (w .first-is)) (c .done .ensures .0) (single-after (c .before .before .before .before .before .before .before .before .before .before .before .before .before .before .before .before .args .core) (c .done .result .core) (c .before .before .before .before .before .before .before .before .before .before .before .before .before .before .before .before .args .regs .now) (c .before .before .before .before .before .before .before .before .before .before .before .before .before .before .before .before .args .n) (accumulator (c .before .before .before .before .before .before .before .before .before .before .before .before .before .before .before .before .args .n)) _ _ _ (singled (c .before .before .before .before .before .before .before .before .before .before .before .before .before .before .before .before .args .n) (contextOf (joined (c .before .before .before .before .before .before .before .before .before .before .before .before .before .before .before .before .args .core) (c .before .before .before .before .before .before .before .before .before .before .before .before .before .before .before .before .args .regs .now))) (c .before .before .before .before .before .before .before .before .before .before .before .before .before .read-operand .result .x)) (c .done .ensures .1) (c .before .following .ensures) (ap (λ r. r .cs) o) (c .before .before .fixed-overflow .ensures ∙ ap (λ r. fixedOverflow (r .overflow)) o) _ (c .before .before .before .put .ensures ∙ ap (λ k. withRegister (c .before .before .before .before .before .before .before .before .before .before .before .before .before .before .before .before .args .regs .now) k (c .before .before .before .before .before .combine16 .result .value)) (c .before .before .before .before .before .before .before .before .before .before .before .accumulator-of .ensures .0) ∙ ap (λ r. withRegister (c .before .before .before .before .before .before .before .before .before .before .before .before .before .before .before .before .args .regs .now) (accumulator (c .before .before .before .before .before .before .before .before .before .before .before .before .before .before .before .before .args .n)) (r .value)) o))
+returns c = let o : c .before .before .before .before .before .combine16 .result ≡ single (singled (c .before .before .before .before .before .before .before .before .before .before .before .before .before .before .before .before .args .n) (contextOf (joined (c .before .before .before .before .before .before .before .before .before .before .before .before .before .before .before .before .args .core) (c .before .before .before .before .before .before .before .before .before .before .before .before .before .before .before .before .args .regs .now))) (c .before .before .before .before .before .before .before .before .before .before .before .before .before .read-operand .result .x)) = rw (← c .before .before .before .before .before .before .before .before .before .before .before .accumulator-of .ensures .0, ← c .before .before .before .before .before .before .before .before .get .ensures, ← c .before .before .before .before .before .before .operand-of .ensures) (c .before .before .before .before .before .combine16 .ensures) in let w = words-first (joined (c .before .before .before .before .before .before .before .before .before .before .before .before .before .before .before .before .args .core) (c .before .before .before .before .before .before .before .before .before .before .before .before .before .before .before .before .args .regs .now)) (c .before .before .before .before .before .before .before .before .before .before .before .before .before .before .before .before .args .memory .now) (c .before .before .before .before .before .before .before .before .before .before .before .before .before .before .before .before .args .pages .now) (c .before .before .before .before .before .before .before .before .before .before .before .before .before .before .before .before .args .n) (way-user (c .before .before .before .before .before .before .before .before .before .before .before .before .before .before .before .before .args .n) 1 (c .before .before .before .before .before .before .before .before .before .before .before .before .before .before .before .before .pre .4) (omega arith)) _ _ 1 (c .before .before .before .before .before .before .before .before .before .before .before .before .before .before .before .before .pre .1) (c .before .before .before .before .before .before .before .before .before .before .before .before .before .before .before .before .pre .2) (way-reads (c .before .before .before .before .before .before .before .before .before .before .before .before .before .before .before .before .args .n) 1 1 0 (c .before .before .before .before .before .before .before .before .before .before .before .before .before .before .before .before .pre .4) (omega arith) refl refl refl refl refl (c .before .before .before .before .before .before .before .before .before .before .before .before .before .before .before .before .args .regs .now)) (way-writes (c .before .before .before .before .before .before .before .before .before .before .before .before .before .before .before .before .args .n) 1 1 0 (c .before .before .before .before .before .before .before .before .before .before .before .before .before .before .before .before .pre .4) (omega arith) refl refl refl refl refl (c .before .before .before .before .before .before .before .before .before .before .before .before .before .before .before .before .args .regs .now)) _ (c .before .before .before .before .before .before .before .before .before .before .before .before .before .read-operand .ensures 1 (way-count (c .before .before .before .before .before .before .before .before .before .before .before .before .before .before .before .before .args .n) 1 (c .before .before .before .before .before .before .before .before .before .before .before .before .before .before .before .before .pre .4) (omega arith) 1 refl)) (c .before .before .before .before .before .before .before .before .before .before .before .before .if1 .taken) in read-done (joined (c .before .before .before .before .before .before .before .before .before .before .before .before .before .before .before .before .args .core) (c .before .before .before .before .before .before .before .before .before .before .before .before .before .before .before .before .args .regs .now)) (c .before .before .before .before .before .before .before .before .before .before .before .before .before .before .before .before .args .memory .now) (c .before .before .before .before .before .before .before .before .before .before .before .before .before .before .before .before .args .pages .now) (c .before .before .before .before .before .before .before .before .before .before .before .before .before .before .before .before .args .n) (way-user (c .before .before .before .before .before .before .before .before .before .before .before .before .before .before .before .before .args .n) 1 (c .before .before .before .before .before .before .before .before .before .before .before .before .before .before .before .before .pre .4) (omega arith)) _ _ 1 (c .before .before .before .before .before .before .before .before .before .before .before .before .before .before .before .before .pre .1) (c .before .before .before .before .before .before .before .before .before .before .before .before .before .before .before .before .pre .2) (way-reads (c .before .before .before .before .before .before .before .before .before .before .before .before .before .before .before .before .args .n) 1 1 0 (c .before .before .before .before .before .before .before .before .before .before .before .before .before .before .before .before .pre .4) (omega arith) refl refl refl refl refl (c .before .before .before .before .before .before .before .before .before .before .before .before .before .before .before .before .args .regs .now)) (way-writes (c .before .before .before .before .before .before .before .before .before .before .before .before .before .before .before .before .args .n) 1 1 0 (c .before .before .before .before .before .before .before .before .before .before .before .before .before .before .before .before .pre .4) (omega arith) refl refl refl refl refl (c .before .before .before .before .before .before .before .before .before .before .before .before .before .before .before .before .args .regs .now)) _ (c .before .before .before .before .before .before .before .before .before .before .before .before .before .read-operand .ensures 1 (way-count (c .before .before .before .before .before .before .before .before .before .before .before .before .before .before .before .before .args .n) 1 (c .before .before .before .before .before .before .before .before .before .before .before .before .before .before .before .before .pre .4) (omega arith) 1 refl)) (singleOutcome (contextOf (joined (c .before .before .before .before .before .before .before .before .before .before .before .before .before .before .before .before .args .core) (c .before .before .before .before .before .before .before .before .before .before .before .before .before .before .before .before .args .regs .now))) (c .before .before .before .before .before .before .before .before .before .before .before .before .before .before .before .before .args .n) (accumulator (c .before .before .before .before .before .before .before .before .before .before .before .before .before .before .before .before .args .n)) (singled (c .before .before .before .before .before .before .before .before .before .before .before .before .before .before .before .before .args .n) (contextOf (joined (c .before .before .before .before .before .before .before .before .before .before .before .before .before .before .before .before .args .core) (c .before .before .before .before .before .before .before .before .before .before .before .before .before .before .before .before .args .regs .now))) (c .before .before .before .before .before .before .before .before .before .before .before .before .before .read-operand .result .x))) _ _ _ (c .before .before .before .before .before .before .before .before .before .before .before .before .if1 .taken) (does-single (c .before .before .before .before .before .before .before .before .before .before .before .before .before .before .before .before .args .n) (c .before .before .before .before .before .before .before .before .before .before .before .before .before .before .before .before .pre .4) _ _ _ (w .first-is)) (c .done .ensures .0) (single-after (c .before .before .before .before .before .before .before .before .before .before .before .before .before .before .before .before .args .core) (endedCore (c .before .before .before .before .before .before .before .before .before .before .before .before .before .before .before .before .args .core) (c .done .result)) (c .before .before .before .before .before .before .before .before .before .before .before .before .before .before .before .before .args .regs .now) (c .before .before .before .before .before .before .before .before .before .before .before .before .before .before .before .before .args .n) (accumulator (c .before .before .before .before .before .before .before .before .before .before .before .before .before .before .before .before .args .n)) _ _ _ (singled (c .before .before .before .before .before .before .before .before .before .before .before .before .before .before .before .before .args .n) (contextOf (joined (c .before .before .before .before .before .before .before .before .before .before .before .before .before .before .before .before .args .core) (c .before .before .before .before .before .before .before .before .before .before .before .before .before .before .before .before .args .regs .now))) (c .before .before .before .before .before .before .before .before .before .before .before .before .before .read-operand .result .x)) (c .done .ensures .1) (c .before .following .ensures) (ap (λ r. r .cs) o) (c .before .before .fixed-overflow .ensures ∙ ap (λ r. fixedOverflow (r .overflow)) o) _ (c .before .before .before .put .ensures ∙ ap (λ k. withRegister (c .before .before .before .before .before .before .before .before .before .before .before .before .before .before .before .before .args .regs .now) k (c .before .before .before .before .before .combine16 .result .value)) (c .before .before .before .before .before .before .before .before .before .before .before .accumulator-of .ensures .0) ∙ ap (λ r. withRegister (c .before .before .before .before .before .before .before .before .before .before .before .before .before .before .before .before .args .regs .now) (accumulator (c .before .before .before .before .before .before .before .before .before .before .before .before .before .before .before .before .args .n)) (r .value)) o))
 
 returns-2 : tie.Need-returns-2
 unfolding atOperand contextOf single

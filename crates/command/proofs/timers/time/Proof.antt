@@ -1,12 +1,11 @@
--- Written by tools/prove.py from answers/command.py: answer faa38c84dfd5, proof 18753e44a9ac.
+-- Written by tools/prove.py from answers/command.py: answer 716503bce41d, proof 624476c6d862.
 -- `command::timers::time` meets its contract. Assumes nothing.
 use Rattle.choice.proofs.SelectLaws.{otherwise}
 use Rattle.command.proofs.timers.time.Statement.{statement}
 use Rattle.command.proofs.timers.time.Tie as tie
-use Rattle.isa.specs.Commands.{timerCommand}
+use Rattle.isa.specs.Commands.{timerRules, timerCommand}
 use Rattle.machine.specs.State.{joined, withProcessor, withClock, withTa, withTb, withTaOn, withTbOn}
 use borrow.Author.Needs.{needs}
-use mathlib.Core.List.{[], _∷_}
 use mathlib.Core.Path.{refl, sym, ap}
 
 returns : tie.Need-returns
@@ -43,7 +42,7 @@ returns-8 c = λ s core. rw (c .before .before .match .keys8, ← c .put2 .ensur
 
 returns-9 : tie.Need-returns-9
 unfolding timerCommand withTa withTb withTaOn withTbOn
-returns-9 c = λ s core. sym (otherwise (c .before .args .command) ((0x4008, _) ∷ (0x4009, _) ∷ (0x400A, _) ∷ (0x400C, _) ∷ (0x400D, _) ∷ (0x400E, _) ∷ (0xC00A, _) ∷ (0xC00E, _) ∷ []) _ (c .match .rest))
+returns-9 c = λ s core. sym (ap (λ f. f (withClock (withProcessor s (joined core (c .before .args .regs .now))) (c .before .args .clock)) (c .before .args .k)) (otherwise (c .before .args .command) timerRules _ (c .match .rest)))
 
 pub time-spec : {M : Type 1} → statement M
 time-spec =

@@ -1,14 +1,14 @@
--- Written by tools/prove.py from answers/effect.py: answer aa3dca50242c, proof c90dcbbc2139.
+-- Written by tools/prove.py from answers/effect.py: answer 390c000427d0, proof d960d77d5b48.
 -- `effect::shapes::stored` meets its contract. Assumes nothing.
 use Rattle.effect.proofs.shapes.stored.Statement.{statement}
 use Rattle.effect.proofs.shapes.stored.Tie as tie
 use Rattle.effect.specs.Work.{worked, filled}
-use Rattle.isa.specs.Effects.{following, effect, stored}
+use Rattle.isa.specs.Effects.{effect, stored}
 use borrow.Author.Needs.{needs}
 use mathlib.Core.Path.{refl}
 
 returns : tie.Need-returns
-unfolding worked filled following effect stored
+unfolding worked filled effect stored
 returns c = λ regs. rw (← c .before .following .ensures, ← c .cs-of .ensures) refl
 
 pub stored-spec : {M : Type 1} → statement M

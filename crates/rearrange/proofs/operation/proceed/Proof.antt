@@ -1,13 +1,12 @@
--- Written by tools/prove.py from answers/rearrange.py: answer a8ae93dbf7be, proof f44e20f0759a.
+-- Written by tools/prove.py from answers/rearrange.py: answer e4a647c9b1d0, proof 992f6e4209b0.
 -- `rearrange::operation::proceed` meets its contract. Assumes nothing.
-use Rattle.isa.specs.Effects.{following}
 use Rattle.isa.specs.Mil1750.{contextOf}
 use Rattle.rearrange.proofs.operation.proceed.Statement.{statement}
 use Rattle.rearrange.proofs.operation.proceed.Tie as tie
 use borrow.Author.Needs.{needs}
 
 returns : tie.Need-returns
-unfolding following contextOf
+unfolding contextOf
 returns c = λ regs after ws. rw (← c .before .before .following .ensures, ← c .before .cs-of .ensures) (c .settle .ensures regs after ws)
 
 pub proceed-spec : {M : Type 1} → statement M
