@@ -4,7 +4,7 @@ WAYS = 'Rattle.accumulate.specs.Ways.'
 ENDED = 'Rattle.accumulate.specs.Ended.{endedCore}'
 WAY_LAWS = 'Rattle.accumulate.proofs.WayLaws.'
 END_LAWS = 'Rattle.accumulate.proofs.EndLaws.'
-OF = '(@Start .pre .4)'
+OF = '(@Start .pre .2)'
 
 
 # the default of a match over an operation's numbers
@@ -16,8 +16,8 @@ def default(last, numbers):
 def reading(way, width, place, calls, given, after):
     name = {16: 'single', 32: 'double'}[width]
     outcome = '(%sd (@args .n) (contextOf %s) %s)' % (name, PLAIN, given)
-    read = '%s %s _ _ %d (@Start .pre .1) (@Start .pre .2) %s %s _ (@read-operand .ensures %d (way-count (@args .n) %d %s (omega arith) %d refl))' % (
-        STARTED, user(way, OF), way, words('reads', way, way, 0, OF), words('writes', way, way, 0, OF), way, way, OF, way)
+    read = '%s %s _ _ %d %s %s %s %s _ (@read-operand .ensures %d (way-count (@args .n) %d %s (omega arith) %d refl))' % (
+        STARTED, user(way, OF), way, KEY, GROUP, words('reads', way, way, 0, OF), words('writes', way, way, 0, OF), way, way, OF, way)
     effect = '(%sOutcome (contextOf %s) (@args .n) %s %s)' % (name, PLAIN, place, outcome)
     told = 'let o : @combine%d .result ≡ %s %s = rw (%s) (@combine%d .ensures) in ' % (width, name, outcome, calls, width)
     first = 'let w = words-first %s (@if1 .taken) in ' % read
@@ -28,7 +28,7 @@ def reading(way, width, place, calls, given, after):
                     STATE + '{joined}', ENDED, ISA + '{contextOf}', FIXED + '{%s}' % name, ACCESSES + '{atOperand}', 'Rattle.isa.specs.Integers.{%sOutcome}' % name,
                     EFFECTS + '{fixedOverflow}', FIELDS + '{withRegister}', ADDRESSING + '{accumulator}'],
             'unf': {'*': 'atOperand contextOf ' + name},
-            'read-operand-requires': '(@Start .pre .0, @Start .pre .3, @Start .pre .5, omega (arith, %s))' % OF,
+            'read-operand-requires': '(@Start .pre .0, %s, @Start .pre .3, omega (arith, %s))' % (SMALL, OF),
             'returns': told + first + 'read-done %s %s _ _ _ (@if1 .taken) (does-%s (@args .n) %s _ _ %s %s) (@done .ensures .0) (%s)' % (
                 read, effect, name, OF, ' '.join(['_'] * way), found, processor),
             'returns-2': 'read-refused %s _ _ _ (@if1 .left) (@refused .ensures .0) (@refused .ensures .1) %s' % (read, unchanged('refused'))}

@@ -2,9 +2,10 @@
 WAYS = 'Rattle.accumulate.specs.Ways.'
 WAY_LAWS = 'Rattle.accumulate.proofs.WayLaws.'
 END_LAWS = 'Rattle.accumulate.proofs.EndLaws.'
-OF = '(@Start .pre .4)'
-KEYS = '_ _ (@Start .pre .1) (@Start .pre .2)'
+OF = '(@Start .pre .2)'
+KEYS = '_ _ %s %s' % (KEY, GROUP)
 CONTEXT = '(contextOf %s)' % PLAIN
+LOOKED = {'look-up-requires': '(@Start .pre .0, %s)' % SMALL}
 AFTER = '(@%s .ensures .1 (@args .regs .now) %s (sym (@following .ensures)) (sym (@cs-of .ensures)) refl)'
 
 
@@ -45,8 +46,8 @@ def branched(call, taken, branch, ic):
 
 
 # the way of an instruction, by the range of its form number
-WAY = '(number-way (@args .n .form) (@args .number) (@Start .pre .4) (search needs) (omega (arith, @Start .pre .6)) ∙ omega (arith, @Start .pre .5, @Start .pre .6))'
-RULED = '(@Start .pre .0, @Start .pre .1, @Start .pre .2, @Start .pre .3, %s, @Start .pre .4)' % WAY
+WAY = '(number-way (@args .n .form) (@args .number) (@Start .pre .2) (search needs) (omega (arith, @Start .pre .4)) ∙ omega (arith, @Start .pre .3, @Start .pre .4))'
+RULED = '(@Start .pre .0, @Start .pre .1, %s, @Start .pre .2)' % WAY
 
 A = {
     'store/word_stored': by(WAYS + ' wordStored', use=[TESTS], returns='rw (eq-eqb _ _ (@if1 .taken), ← @accumulator-of .ensures .0) (@get .ensures)',
@@ -55,7 +56,7 @@ A = {
         'use': [EQUATIONS, OMEGA, WAY_LAWS + '{way-user, way-reads, way-writes, way-stored, way-store, some-words, no-words, does-store}', END_LAWS + '{store-done, store-refused, idle-done}', 'mathlib.Core.Bool.{false, cond}',
                 STATE + '{joined}', ADDRESSING + '{inMemory}', FORMS + '{modeOf}', ISA + '{contextOf}', WAYS + '{wordStored}', EFFECTS + '{effect, stored}', FIELDS + '{withRegisters}', MACHINE + '{spanFrom}', LOCATED],
         'unf': {'*': 'contextOf effect stored withRegisters'},
-        'mul-memory': 'omega (arith, %s)' % inside('place'), 'slice-write-memory': inside('place'), 'write-count-requires': '@Start .pre .5',
+        'mul-memory': 'omega (arith, %s)' % inside('place'), 'slice-write-memory': inside('place'), 'write-count-requires': '@Start .pre .3', **LOOKED,
         'returns': 'store-done %s _ _ %s _ _ _ (@place .given .1) refl (does-store (@args .n) %s _ _ ∙ ap (λ x. stored %s (@args .n) x 0 0) (sym (@word-stored .ensures))) (@done .ensures .0) %s' % (
             ONE, STORED, OF, CONTEXT, AFTER % ('done', STORED)),
         'returns-2': 'store-refused %s _ _ _ _ (@place2 .given .1) (@refused .ensures .0) (@refused .ensures .1) %s' % (ONE, unchanged('refused')),
@@ -66,7 +67,7 @@ A = {
                 'mathlib.Core.Bool.{false, cond}', STATE + '{joined}', ADDRESSING + '{inMemory}', FORMS + '{modeOf}', ISA + '{contextOf}', EFFECTS + '{effect, stored}', FIELDS + '{withRegisters, register}',
                 ADDRESSING + '{accumulator}', 'Prim.Native.Nat.{_+_}', SPANS + '{wrapped, andThen}', MACHINE + '{spanFrom}', LOCATED],
         'unf': {'*': 'contextOf effect stored withRegisters wrapped andThen'},
-        'put-two-requires': '(%s, %s)' % (inside('first'), inside('second', 'look-up2')), 'write-count-requires': '@Start .pre .5',
+        'put-two-requires': '(%s, %s)' % (inside('first'), inside('second', 'look-up2')), 'write-count-requires': '@Start .pre .3', **LOOKED, 'look-up-requires-2': '(@Start .pre .0, %s)' % SMALL,
         'returns': 'idle-done %s false %s %s _ _ _ (does-pair (@args .n) %s _ _) (@done .ensures .0) %s' % (
             PAIR, written(5, 2, UNSEEN['taken']), HELD, OF, AFTER % ('done', HELD)),
         'returns-2': 'rw (@put-two .ensures) (pair-done %s _ _ _ _ %s _ _ _ (rw (%s) refl) (rw (%s) refl) refl (rw (@get .ensures, @get2 .ensures, @accumulator-of .ensures .0, '

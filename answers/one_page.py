@@ -3,9 +3,9 @@ ROWS = 'Rattle.one_page.specs.Rows.{upwards, downwards, storedAt}'
 HERE = 'Rattle.one_page.proofs.HereLaws.'
 
 # an attempt: its key and group; what its functions require; the row that it found
-OWN = '← @Start .pre .1, ← @Start .pre .2'
+OWN = '← %s, ← %s' % (KEY, GROUP)
 ROW = 'row-found _ _ _ _ _ _ _ _ _ (@find-row .ensures) (@row .given .1)'
-LOOKED = '(@Start .pre .0, @Start .pre .3)'
+LOOKED = '(@Start .pre .0, %s)' % SMALL
 
 
 # the place of a word that is moved, by the registers that say it
@@ -31,18 +31,18 @@ A = {
     'here/try_move': by(use=[TESTS, OMEGA, LOCATED, HERE + '{moved-here}', STATE + '{joined}'],
         look_up_requires=LOOKED, look_up_requires_2=LOOKED,
         copy_requires='(%s, %s)' % (inside('from'), inside('to', 'look-up2')),
-        returns_4='moved-here %s (@Start .pre .4) (%s) _ _ (%s) (%s) _ _ (@move-word .ensures _) (@copy .ensures)'
+        returns_4='moved-here %s (@Start .pre .2) (%s) _ _ (%s) (%s) _ _ (@move-word .ensures _) (@copy .ensures)'
             % (STARTED, 'rw (← @field-a .ensures .0, ← @get .ensures) (ne-eqb _ _ (@if1 .left))', looked('from', '← @field-b .ensures .0, ← @get2 .ensures', 'look-up'), looked('to', '← @field-a .ensures .0, ← @get3 .ensures', 'look-up2'))),
     'here/try_load': by(use=[OMEGA, STATE + '{joined}', HERE + '{row-found, loaded-here}'],
-        find_row_requires='(@Start .pre .0, @Start .pre .3, omega (arith, @field-a .ensures .1))', load_multiple_requires='rw (← @field-a .ensures .0) (%s .2)' % ROW,
-        returns_2='loaded-here %s (@Start .pre .4) (@row .given .0 .0) (rw (%s, ← @field-a .ensures .0) (%s)) _ _ (@load-multiple .ensures) refl' % (STARTED, OWN, ROW)),
+        find_row_requires='(@Start .pre .0, %s, omega (arith, @field-a .ensures .1))' % SMALL, load_multiple_requires='rw (← @field-a .ensures .0) (%s .2)' % ROW,
+        returns_2='loaded-here %s (@Start .pre .2) (@row .given .0 .0) (rw (%s, ← @field-a .ensures .0) (%s)) _ _ (@load-multiple .ensures) refl' % (STARTED, OWN, ROW)),
     'here/try_pop': by(use=[OMEGA, STATE + '{joined}', HERE + '{row-found, popped-here}'], registers_from_requires=BOUNDS_AB,
-        find_row_requires='(@Start .pre .0, @Start .pre .3, @registers-from .ensures .1)', pop_multiple_requires='rw (%s) (%s .2)' % (COUNT_AB, ROW),
-        returns_2='popped-here %s (@Start .pre .4) (@row .given .0 .0) (rw (%s, %s, ← @get .ensures) (%s)) _ _ (@pop-multiple .ensures) refl' % (STARTED, OWN, COUNT_AB, ROW)),
+        find_row_requires='(@Start .pre .0, %s, @registers-from .ensures .1)' % SMALL, pop_multiple_requires='rw (%s) (%s .2)' % (COUNT_AB, ROW),
+        returns_2='popped-here %s (@Start .pre .2) (@row .given .0 .0) (rw (%s, %s, ← @get .ensures) (%s)) _ _ (@pop-multiple .ensures) refl' % (STARTED, OWN, COUNT_AB, ROW)),
     'here/try_store': by(BLOCKS + ' storedAll', ISA + ' contextOf', use=[OMEGA, STATE + '{joined}', HERE + '{row-found, stored-here}'],
-        find_row_requires='(@Start .pre .0, @Start .pre .3, omega (arith, @field-a .ensures .1))', store_row_requires='(omega (arith, @field-a .ensures .1), %s .2)' % ROW,
-        returns_2='stored-here %s (@Start .pre .4) (@row .given .0 .0) (rw (%s, ← @field-a .ensures .0) (%s)) _ _ (@proceed .ensures _ _ _) (rw (← @field-a .ensures .0) (@store-row .ensures))' % (STARTED, OWN, ROW)),
+        find_row_requires='(@Start .pre .0, %s, omega (arith, @field-a .ensures .1))' % SMALL, store_row_requires='(omega (arith, @field-a .ensures .1), %s .2)' % ROW,
+        returns_2='stored-here %s (@Start .pre .2) (@row .given .0 .0) (rw (%s, ← @field-a .ensures .0) (%s)) _ _ (@proceed .ensures _ _ _) (rw (← @field-a .ensures .0) (@store-row .ensures))' % (STARTED, OWN, ROW)),
     'here/try_push': by(use=[OMEGA, LOCATED, STATE + '{joined}', 'Rattle.page.proofs.NearLaws.{found-offset}', HERE + '{pushed-here}'], registers_from_requires=BOUNDS_AB, look_up_requires=LOOKED,
         push_row_requires='(@field-b .ensures .1, @registers-from .ensures .1, omega (arith, found-offset _ _ _ _ _ _ _ (sym (@look-up .ensures) ∙ @place .given .1)), %s)' % inside('place'),
-        returns_3='pushed-here %s (@Start .pre .4) (@place .given .0 .0) (rw (%s, ← @get .ensures, ← @less .ensures) (sym (@look-up .ensures) ∙ @place .given .1)) (rw (%s, ← @get .ensures, ← @less .ensures) (omega (arith, @if1 .left))) _ _ (@push-multiple .ensures) (rw (%s) (@push-row .ensures))' % (STARTED, OWN, COUNT_AB, COUNT_AB)),
+        returns_3='pushed-here %s (@Start .pre .2) (@place .given .0 .0) (rw (%s, ← @get .ensures, ← @less .ensures) (sym (@look-up .ensures) ∙ @place .given .1)) (rw (%s, ← @get .ensures, ← @less .ensures) (omega (arith, @if1 .left))) _ _ (@push-multiple .ensures) (rw (%s) (@push-row .ensures))' % (STARTED, OWN, COUNT_AB, COUNT_AB)),
 }

@@ -5,7 +5,7 @@ NEXT = 'Rattle.page.proofs.NearLaws.{lookup-next}'
 
 
 # the key and the group are those of SW
-KEYED, BACK = '← @Start .pre .1, ← @Start .pre .2', ', @Start .pre .1, @Start .pre .2'
+KEYED, BACK = '← %s, ← %s' % (KEY, GROUP), ', %s, %s' % (KEY, GROUP)
 SECOND = 'granted-second _ _ _ _ _ _, ' + KEYED + ', ← @second-word .ensures, @%s .given .1'
 ADMITTED = 'ne-eqb _ _ (@if1 .left), ' + KEYED + ', ← @class-of .ensures, ← @permit .ensures'
 # the second word follows the first in its page; the first is inside the memory
@@ -21,7 +21,7 @@ A = {
     'ready': by(STAGES + ' readyAt', returns='refl'),
     'redirect': by(STAGES + ' redirected', STATE + ' advanced',
         returns='rw (@got .given .1) (@ready .ensures)', returns_2='rw (@got2 .given .1, ← @advance .ensures) refl'),
-    'derive': by(STAGES + ' derived', ISA + ' mil1750', use=[TESTS],
+    'derive': by(STAGES + ' derived', ISA + ' mil1750', use=[TESTS], read_word_requires='(@Start .pre .0, %s)' % SMALL,
         returns='rw (eq-eqb _ _ (@if1 .taken), ← @derive .ensures, ' + KEYED + ', ← @read-word .ensures) (@redirect .ensures)',
         returns_2='rw (ne-eqb _ _ (@if1 .left), ← @derive .ensures) (@ready .ensures)'),
     'second_word': by(SPANS + ' gotAt', use=['Prim.Native.Nat.{_+_}', LENGTH, TESTS, LIMITS, OMEGA, LOCATED, NEXT],
@@ -29,7 +29,7 @@ A = {
         add_next='omega (arith, located-inside _ _ _ _ _ _ _ _ (sym (@Start .pre .2)) refl)',
         returns_2='rw (%s, lt-ltb %s) refl' % (FOLLOWING, NEXT_BOUND), returns_3='rw (%s, le-ltb %s) refl' % (FOLLOWING, NEXT_BOUND),
         returns_4='rw (ne-eqb _ _ (@if1 .left))'),
-    'extend': by(STAGES + ' extended', STATE + ' advanced', use=[LAWS],
+    'extend': by(STAGES + ' extended', STATE + ' advanced', use=[LAWS], second_word_requires='(@Start .pre .0, %s, @Start .pre .2)' % SMALL,
         returns='rw (%s) (@derive .ensures)' % (SECOND % 'second' + BACK), returns_2='rw (%s, ← @advance .ensures) refl' % (SECOND % 'second2')),
     'prepare': by(STAGES + ' decoded granted', STATE + ' advanced', ISA + ' mil1750', use=[TESTS],
         returns='rw (eq-eqb _ _ (@if1 .taken), ← @advance .ensures) refl',

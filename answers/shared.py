@@ -149,6 +149,14 @@ def linked(call, state):
     return '(@link .ensures (@%s .result) refl refl .0) (@link .ensures (@%s .result) refl refl .1 %s refl refl refl)' % (call, call, state)
 
 
+# where `Keyed` stands at a place of what a function requires: the key and the group are those of SW, and the group is one of sixteen
+def keyed(place, *facts):
+    return ['(@Start .pre .%d .%s)' % (place, fact) for fact in facts]
+
+
+KEY, GROUP, SMALL = keyed(1, 'key-is', 'group-is', 'group-small')
+
+
 # any key may run the operation of a way; the words that it reads and writes, k and j where its operand is in memory
 def user(way, fact):
     return '(way-user (@args .n) %d %s (omega arith))' % (way, fact)

@@ -19,9 +19,9 @@ def kept(call):
 
 
 # a row of instructions: the last of them so far
-ROW = ('mil1750 s (@args .from) (l .lag) (l .inv .3) _ _ %s %s (l .regs) (l .memory) (l .pages) (l .ports) (l .inv .10 s q) (@instruct .result) _ _ _ _ '
+ROW = ('mil1750 s (@args .from) (l .lag) (l .inv .3) _ _ %s %s (l .regs) (l .memory) (l .pages) (l .ports) (l .inv .9 s q) (@instruct .result) _ _ _ _ '
        '(@instruct .ensures .0 (withClock s (later (l .lag) (s .clock))))' % (REGS, SPACES))
-CHOSEN = 'rw (chosen-settled _ _ d) (l .inv .9 (@if2 .left))'
+CHOSEN = 'rw (chosen-settled _ _ d) (l .inv .8 (@if2 .left))'
 OBEYED = ('let l = @loop in rw (@%%s .ensures) (record { onward = omega (arith, l .inv .3); within = omega (arith, l .inv .4, l .inv .5); '
           'made = λ s q. row-made %s (@args .core) (@release .ensures) (@Start .pre .4) })' % ROW)
 
@@ -40,22 +40,22 @@ A = {
     'end_of': by(use=[OMEGA], returns='(rw (@if1 .taken) refl, omega arith, omega arith, λ h. absurd (omega arith))',
         returns_2='(rw (@if1 .left) refl, omega arith, omega arith, λ h. @if1 .left)'),
     'obey': {
-        'use': [EQUATIONS, OMEGA, ANSWERS, LENGTH, 'Prim.Native.Nat.{ℕ, _+_, _≤_, _<_, _-_}', 'Rattle.machine.specs.declared.State.{State}', STATE + '{keyOf, groupOf, withClock}', ISA + '{mil1750}',
+        'use': [EQUATIONS, OMEGA, ANSWERS, LENGTH, 'Prim.Native.Nat.{ℕ, _+_, _≤_, _<_, _-_}', 'Rattle.machine.specs.declared.State.{State}', STATE + '{keyOf, groupOf, Keyed, withClock}', ISA + '{mil1750}',
                 'mathlib.Core.Bool.{false}', ENTRIES + '{chosen}', *CALM, ROWS + '{lateAt}',
                 LAWS + '{going, row-made, row-on, sw-released, hold-released, chosen-released, chosen-settled}'],
         'Inv-loop': '(length memory ≡ length memory₀) × (length pages ≡ length pages₀) × (length ports ≡ length ports₀) × (lag₀ ≤ lag) × (lag < end) × (end ≤ most) × '
-            '(key ≡ keyOf (t .sw)) × (group ≡ groupOf (t .sw)) × (t .hold ≡ false) × (lag + 1 < end → 16 ≤ chosen t) × '
+            'Keyed (t .sw) key group × (t .hold ≡ false) × (lag + 1 < end → 16 ≤ chosen t) × '
             '((s : State) → Calm (most - 1) (s .clock) → (k : ℕ) → going mil1750 (k + (lag - lag₀)) (lateAt s lag₀ t₀ regs₀) memory₀ pages₀ ports₀ ≡ going mil1750 k (lateAt s lag t regs) memory pages ports)',
         'μ-loop': 'end - lag', 'default': 'omega arith', 'end-of-requires': '@Start .pre .3',
-        'loop-holds': '(refl, refl, refl, omega arith, @end-of .ensures .1, @end-of .ensures .2, @key-of .ensures .0 ∙ ap keyOf (sw-released _ _ (@release .ensures)), '
-            '@group-of .ensures .0 ∙ ap groupOf (sw-released _ _ (@release .ensures)), hold-released _ _ (@release .ensures), '
+        'loop-holds': '(refl, refl, refl, omega arith, @end-of .ensures .1, @end-of .ensures .2, record { key-is = @key-of .ensures .0 ∙ ap keyOf (sw-released _ _ (@release .ensures)); '
+            'group-is = @group-of .ensures .0 ∙ ap groupOf (sw-released _ _ (@release .ensures)); group-small = @group-of .ensures .1 }, hold-released _ _ (@release .ensures), '
             'λ h. rw (chosen-released _ _ (@release .ensures) (@end-of .ensures .3 h)) (@Start .pre .4), '
             'λ s q k. ap (λ j. going mil1750 j (lateAt s (@args .from) (@release .result) %s) %s) (omega arith))' % (REGS, SPACES),
-        'instruct-requires': '(omega arith, omega arith, @Start .pre .2, @loop .inv .6, @loop .inv .7, @group-of .ensures .1)',
+        'instruct-requires': '(omega arith, omega arith, @Start .pre .2, @loop .inv .6)',
         'add-lag': 'omega (arith, @loop .inv .4)', 'loop-less': 'omega (arith, @loop .inv .4)',
         'loop-again': 'let l = @loop in let y = not-false (@instruct .result .settled) (@if1 .left) in let z = @instruct .ensures .1 in let d = z .choice-kept y in '
-            '(%s, omega (arith, l .inv .3), @if2 .left, l .inv .5, l .inv .6 ∙ sym (d .key-kept), l .inv .7 ∙ sym (d .group-kept), d .hold-kept ∙ l .inv .8, λ h. %s, '
-            'λ s q. row-on %s (z .all-done y) (d .hold-kept ∙ l .inv .8) (%s) (calm-fewer _ _ _ (omega (arith, @if2 .left, l .inv .5)) q))' % (', '.join(lengths('instruct')), CHOSEN, ROW, CHOSEN),
+            '(%s, omega (arith, l .inv .3), @if2 .left, l .inv .5, record { key-is = l .inv .6 .key-is ∙ sym (d .key-kept); group-is = l .inv .6 .group-is ∙ sym (d .group-kept); group-small = l .inv .6 .group-small }, d .hold-kept ∙ l .inv .7, λ h. %s, '
+            'λ s q. row-on %s (z .all-done y) (d .hold-kept ∙ l .inv .7) (%s) (calm-fewer _ _ _ (omega (arith, @if2 .left, l .inv .5)) q))' % (', '.join(lengths('instruct')), CHOSEN, ROW, CHOSEN),
         'returns': OBEYED % 'ended', 'returns-2': OBEYED % 'ended2', **kept('instruct')},
     'turn': by(use=[OMEGA, LAWS + '{entry-made}', 'Rattle.clock.specs.Later.{later}', STATE + '{withClock}', ISA + '{mil1750}', MOVED],
         obey_requires='(@Start .pre .0, @Start .pre .1, @Start .pre .2, @Start .pre .3, rw (← @choose .ensures (@args .core) refl refl refl refl) (@if1 .left))',

@@ -13,7 +13,7 @@ def governed(law, facts):
     return ('λ s memory. %s %s memory (@args .n) _ (@args .pages .now) _ (@args .ports .now) _ (@transfer .result) _ (@transfer .ensures .0 %s) %s' % (law, AROUND, AROUND, facts))
 
 
-LOADED = '%s %s ports (@args .n) (@Start .pre .4) _ _ (@Start .pre .1) (@Start .pre .2) _ (@read-operand .ensures 3 (way-count (@args .n) 8 (@Start .pre .4) (omega arith) 3 refl))' % (AROUND, PAGED)
+LOADED = '%s %s ports (@args .n) (@Start .pre .2) _ _ %s %s _ (@read-operand .ensures 3 (way-count (@args .n) 8 (@Start .pre .2) (omega arith) 3 refl))' % (AROUND, PAGED, KEY, GROUP)
 SHIFTED = '(withIc (@args .core) (@advance .result))'
 BEX = '(withProcessor s (joined (@args .core) regs))'
 
@@ -39,7 +39,7 @@ A = {
             % (BEX, PAGED, UNSETTLED)),
     'load': by(use=[OMEGA, 'Rattle.accumulate.proofs.WayLaws.{way-count}', ACT + '{failed}', SYSTEM + '{lst-carried, lst-denied, lst-became}',
                     MOVED + '{timer-none, unsettled-lasting}', STATE + '{joined, withProcessor}'],
-        read_operand_requires='(@Start .pre .0, @Start .pre .3, @Start .pre .5, omega (arith, @Start .pre .4))',
+        read_operand_requires='(@Start .pre .0, %s, @Start .pre .3, omega (arith, @Start .pre .2))' % SMALL,
         returns='λ ports. (λ s. rw (@unsettled .ensures, timer-none _ _, ← lst-carried %s (@if1 .taken)) (lst-became %s _ %s ports _ _ _ (@load-status .ensures)), %s)'
             % (LOADED, AROUND, PAGED, UNSETTLED),
         returns_2='λ ports. (λ s. rw (@deny .ensures, timer-none _ _, ← lst-denied %s (@if1 .left), ← @advance .ensures) (%s), %s)'

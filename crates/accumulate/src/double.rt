@@ -4,7 +4,7 @@ ghost use Prim.Native.Nat.{_<_};
 ghost use lib.ListN.{length};
 ghost use Rattle.fixed.specs.Fixed.{double};
 ghost use Rattle.decode.specs.Forms.{operationOf};
-ghost use Rattle.machine.specs.State.{keyOf, groupOf, joined};
+ghost use Rattle.machine.specs.State.{Keyed, joined};
 ghost use Rattle.needs.specs.Needs.{wayOf, numberOf};
 ghost use Rattle.accumulate.specs.Ways.{plain, intoDouble, target};
 ghost use Rattle.accumulate.specs.Ended.{Ended, endedCore};
@@ -72,7 +72,7 @@ pub fn into_double(
     n: Instruction,
     number: u32,
 ) -> Ending
-    requires { ⌜ (length (now pages) ≡ 512) × (key ≡ keyOf (core .sw)) × (group ≡ groupOf (core .sw)) × (group < 16) × (wayOf (operationOf (n .form)) ≡ 2)
+    requires { ⌜ (length (now pages) ≡ 512) × Keyed (core .sw) key group × (wayOf (operationOf (n .form)) ≡ 2)
         × (number ≡ numberOf (n .form)) ⌝ }
     ensures { λ r. ⌜ Ended (joined core (now (regs .entry))) (now (memory .entry)) (now (pages .entry)) n (r .clear) (r .fault) (joined (endedCore core r) (now (regs .exit))) (now (memory .entry)) ⌝ }
 {

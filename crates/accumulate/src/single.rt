@@ -1,10 +1,9 @@
 // One word into the accumulator: L A S OR AND (5.38, 5.55, 5.63, 5.81, 5.82).
 ghost use mathlib.Core.Path.{_≡_};
-ghost use Prim.Native.Nat.{_<_};
 ghost use lib.ListN.{length};
 ghost use Rattle.fixed.specs.Fixed.{single};
 ghost use Rattle.decode.specs.Forms.{operationOf};
-ghost use Rattle.machine.specs.State.{keyOf, groupOf, joined};
+ghost use Rattle.machine.specs.State.{Keyed, joined};
 ghost use Rattle.needs.specs.Needs.{wayOf, numberOf};
 ghost use Rattle.accumulate.specs.Ways.{plain, intoSingle};
 ghost use Rattle.accumulate.specs.Ended.{Ended, endedCore};
@@ -62,7 +61,7 @@ pub fn into_single(
     n: Instruction,
     number: u32,
 ) -> Ending
-    requires { ⌜ (length (now pages) ≡ 512) × (key ≡ keyOf (core .sw)) × (group ≡ groupOf (core .sw)) × (group < 16) × (wayOf (operationOf (n .form)) ≡ 1)
+    requires { ⌜ (length (now pages) ≡ 512) × Keyed (core .sw) key group × (wayOf (operationOf (n .form)) ≡ 1)
         × (number ≡ numberOf (n .form)) ⌝ }
     ensures { λ r. ⌜ Ended (joined core (now (regs .entry))) (now (memory .entry)) (now (pages .entry)) n (r .clear) (r .fault) (joined (endedCore core r) (now (regs .exit))) (now (memory .entry)) ⌝ }
 {

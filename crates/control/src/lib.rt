@@ -78,12 +78,17 @@ pub fn reset_pending(core: Core, k: u16) -> Core
     set_pending(core, pi, core.ft)
 }
 
-// Interrupts enabled, and the hold mark.
+// Interrupts enabled, and the hold mark. All parts are written: a copy of the others in between would wait for them (docs/BENCHMARK.md, "Sizes").
 pub fn set_enabled(core: Core, enabled: bool, hold: bool) -> Core
     ensures { λ r. ⌜ r ≡ withHold (withEnabled core enabled) hold ⌝ }
 {
-    let mut t = core;
-    t.enabled = enabled;
-    t.hold = hold;
-    t
+    Core {
+        ic: core.ic,
+        pi: core.pi,
+        sw: core.sw,
+        ft: core.ft,
+        mk: core.mk,
+        enabled,
+        hold,
+    }
 }

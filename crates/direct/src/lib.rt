@@ -3,7 +3,7 @@
 ghost use mathlib.Core.Path.{_≡_};
 ghost use Prim.Native.Nat.{_<_, _≤_};
 ghost use lib.ListN.{length};
-ghost use Rattle.machine.specs.State.{keyOf, groupOf, joined};
+ghost use Rattle.machine.specs.State.{Keyed, joined};
 ghost use Rattle.needs.specs.Needs.{numberOf};
 ghost use Rattle.accumulate.specs.Ended.{Ended, endedCore};
 use crate::branch::branch;
@@ -29,7 +29,7 @@ pub fn direct(
     n: Instruction,
     number: u32,
 ) -> Ending
-    requires { ⌜ (length (now pages) ≡ 512) × (key ≡ keyOf (core .sw)) × (group ≡ groupOf (core .sw)) × (group < 16) × (number ≡ numberOf (n .form)) × (0x0080_0000 ≤ number) × (number < 0x0300_0000) ⌝ }
+    requires { ⌜ (length (now pages) ≡ 512) × Keyed (core .sw) key group × (number ≡ numberOf (n .form)) × (0x0080_0000 ≤ number) × (number < 0x0300_0000) ⌝ }
     ensures { λ r. ⌜ Ended (joined core (now (regs .entry))) (now (memory .entry)) (now (pages .entry)) n (r .clear) (r .fault) (joined (endedCore core r) (now (regs .exit))) (now (memory .exit)) ⌝ }
 {
     match number {

@@ -3,7 +3,7 @@ ghost use mathlib.Core.Path.{_≡_};
 ghost use Prim.Native.Nat.{_<_};
 ghost use lib.ListN.{length, set};
 ghost use Rattle.decode.specs.Forms.{operationOf};
-ghost use Rattle.machine.specs.State.{keyOf, groupOf, joined};
+ghost use Rattle.machine.specs.State.{Keyed, joined};
 ghost use Rattle.needs.specs.Needs.{wayOf, numberOf};
 ghost use Rattle.accumulate.specs.Ways.{wordStored};
 ghost use Rattle.accumulate.specs.Ended.{Ended, endedCore};
@@ -44,7 +44,7 @@ pub(crate) fn store_one(
     n: Instruction,
     number: u32,
 ) -> Ending
-    requires { ⌜ (length (now pages) ≡ 512) × (key ≡ keyOf (core .sw)) × (group ≡ groupOf (core .sw)) × (group < 16) × (wayOf (operationOf (n .form)) ≡ 3)
+    requires { ⌜ (length (now pages) ≡ 512) × Keyed (core .sw) key group × (wayOf (operationOf (n .form)) ≡ 3)
         × (number ≡ numberOf (n .form)) ⌝ }
     ensures { λ r. ⌜ Ended (joined core (now (regs .entry))) (now (memory .entry)) (now (pages .entry)) n (r .clear) (r .fault) (joined (endedCore core r) (now (regs .entry))) (now (memory .exit)) ⌝ }
 {
@@ -86,7 +86,7 @@ pub(crate) fn store_two(
     n: Instruction,
     number: u32,
 ) -> Ending
-    requires { ⌜ (length (now pages) ≡ 512) × (key ≡ keyOf (core .sw)) × (group ≡ groupOf (core .sw)) × (group < 16) × (wayOf (operationOf (n .form)) ≡ 5)
+    requires { ⌜ (length (now pages) ≡ 512) × Keyed (core .sw) key group × (wayOf (operationOf (n .form)) ≡ 5)
         × (number ≡ numberOf (n .form)) ⌝ }
     ensures { λ r. ⌜ Ended (joined core (now (regs .entry))) (now (memory .entry)) (now (pages .entry)) n (r .clear) (r .fault) (joined (endedCore core r) (now (regs .entry))) (now (memory .exit)) ⌝ }
 {

@@ -10,7 +10,7 @@ ghost use Rattle.page.specs.Pages.{lookup};
 ghost use Rattle.page.specs.Spans.{checked, wordsOf};
 ghost use Rattle.decode.specs.Forms.{operationOf};
 ghost use Rattle.decode.specs.Decode.{decodeOf};
-ghost use Rattle.machine.specs.State.{keyOf, groupOf, processor};
+ghost use Rattle.machine.specs.State.{keyOf, groupOf, Keyed, processor};
 ghost use Rattle.machine.specs.Instructions as spec;
 ghost use Rattle.isa.specs.Accesses.{readsOf, writesOf};
 ghost use Rattle.isa.specs.Mil1750.{mil1750};
@@ -99,7 +99,7 @@ fn carry_block(
     pages: &[u16],
     n: Instruction,
 ) -> Moved
-    requires { ⌜ (length (now pages) ≡ 512) × (isBlock (operationOf (n .form)) ≡ true) × (key ≡ keyOf (core .sw)) × (group ≡ groupOf (core .sw)) × (group < 16) ⌝ }
+    requires { ⌜ (length (now pages) ≡ 512) × (isBlock (operationOf (n .form)) ≡ true) × Keyed (core .sw) key group ⌝ }
     ensures { λ r. ⌜ ((ports : List ℕ) → Performed (carrying n) core (now (regs .entry)) (now (memory .entry)) (now (pages .entry)) ports
         r (now (regs .exit)) (now (memory .exit)) (now (pages .entry)) ports) ⌝ }
 {
@@ -123,7 +123,7 @@ fn proceed(
     number: u32,
 ) -> Moved
     requires { ⌜ (length (now pages) ≡ 512) × (isBlock (operationOf (n .form)) ≡ false)
-        × FirstThree (wordsOf (keyOf (core .sw)) (groupOf (core .sw)) (now pages) (length (now memory)) (readsOf (now regs) n) (now memory)) (g .x) (g .y) (g .z) × (key ≡ keyOf (core .sw)) × (group ≡ groupOf (core .sw)) × (group < 16)
+        × FirstThree (wordsOf (keyOf (core .sw)) (groupOf (core .sw)) (now pages) (length (now memory)) (readsOf (now regs) n) (now memory)) (g .x) (g .y) (g .z) × Keyed (core .sw) key group
         × (number ≡ numberOf (n .form)) × (wayOf (operationOf (n .form)) ≡ 0) ⌝ }
     ensures { λ r. ⌜ ((ports : List ℕ) → Performed (λ m g o s. spec.accessed mil1750 s g o (spec.view (s .core) m g) n
         (checked (keyOf (s .core .sw)) (groupOf (s .core .sw)) g (length m) (writesOf (s .regs) n) Access.Write))
@@ -151,7 +151,7 @@ fn carry_direct(
     n: Instruction,
     number: u32,
 ) -> Moved
-    requires { ⌜ (length (now pages) ≡ 512) × (key ≡ keyOf (core .sw)) × (group ≡ groupOf (core .sw)) × (group < 16)
+    requires { ⌜ (length (now pages) ≡ 512) × Keyed (core .sw) key group
         × (number ≡ numberOf (n .form)) × (0x0080_0000 ≤ number) × (number < 0x0300_0000) ⌝ }
     ensures { λ r. ⌜ ((ports : List ℕ) → Performed (carrying n) core (now (regs .entry)) (now (memory .entry)) (now (pages .entry)) ports
         r (now (regs .exit)) (now (memory .exit)) (now (pages .entry)) ports) ⌝ }
@@ -174,7 +174,7 @@ fn carry_ordinary(
     n: Instruction,
     number: u32,
 ) -> Moved
-    requires { ⌜ (length (now pages) ≡ 512) × (key ≡ keyOf (core .sw)) × (group ≡ groupOf (core .sw)) × (group < 16) × (number ≡ numberOf (n .form))
+    requires { ⌜ (length (now pages) ≡ 512) × Keyed (core .sw) key group × (number ≡ numberOf (n .form))
         × (isBlock (operationOf (n .form)) ≡ false) × (wayOf (operationOf (n .form)) ≡ 0) ⌝ }
     ensures { λ r. ⌜ ((ports : List ℕ) → Performed (carrying n) core (now (regs .entry)) (now (memory .entry)) (now (pages .entry)) ports
         r (now (regs .exit)) (now (memory .exit)) (now (pages .entry)) ports) ⌝ }
@@ -199,7 +199,7 @@ fn carry(
     n: Instruction,
     number: u32,
 ) -> Moved
-    requires { ⌜ (length (now pages) ≡ 512) × (length (now ports) ≡ 1024) × (key ≡ keyOf (core .sw)) × (group ≡ groupOf (core .sw)) × (group < 16) × (number ≡ numberOf (n .form)) ⌝ }
+    requires { ⌜ (length (now pages) ≡ 512) × (length (now ports) ≡ 1024) × Keyed (core .sw) key group × (number ≡ numberOf (n .form)) ⌝ }
     ensures { λ r. ⌜ Performed (carrying n) core (now (regs .entry)) (now (memory .entry)) (now (pages .entry)) (now (ports .entry))
         r (now (regs .exit)) (now (memory .exit)) (now (pages .exit)) (now (ports .exit)) ⌝ }
 {
@@ -232,7 +232,7 @@ fn begin(
     w: u16,
     at: usize,
 ) -> Moved
-    requires { ⌜ (length (now pages) ≡ 512) × (length (now ports) ≡ 1024) × (key ≡ keyOf (core .sw)) × (group ≡ groupOf (core .sw)) × (group < 16) × (number ≡ numberOf (decodeOf w))
+    requires { ⌜ (length (now pages) ≡ 512) × (length (now ports) ≡ 1024) × Keyed (core .sw) key group × (number ≡ numberOf (decodeOf w))
         × (lookup Access.Fetch key group (now pages) (length (now memory)) (core .ic) ≡ Place.At at) ⌝ }
     ensures { λ r. ⌜ Performed (λ m g o s. spec.carried mil1750 s g o (spec.view (s .core) m g)
         (spec.decoded mil1750 (processor s) (spec.view (s .core) m g) (decodeOf w) w (eqb (decodeOf w) 0)))
@@ -256,7 +256,7 @@ pub fn instruct(
     ports: &mut [u16],
     table: &[u32; 256],
 ) -> Moved
-    requires { ⌜ (length (now pages) ≡ 512) × (length (now ports) ≡ 1024) × (now table ≡ numbers) × (key ≡ keyOf (core .sw)) × (group ≡ groupOf (core .sw)) × (group < 16) ⌝ }
+    requires { ⌜ (length (now pages) ≡ 512) × (length (now ports) ≡ 1024) × (now table ≡ numbers) × Keyed (core .sw) key group ⌝ }
     ensures { λ r. ⌜ Performed obeying core (now (regs .entry)) (now (memory .entry)) (now (pages .entry)) (now (ports .entry))
         r (now (regs .exit)) (now (memory .exit)) (now (pages .exit)) (now (ports .exit)) ⌝ }
 {

@@ -4,7 +4,7 @@ ghost use mathlib.Core.Path.{_≡_};
 ghost use Prim.Native.Nat.{_<_};
 ghost use lib.ListN.{length, getD, set};
 ghost use Rattle.decode.specs.Forms.{operationOf};
-ghost use Rattle.machine.specs.State.{joined, keyOf, groupOf};
+ghost use Rattle.machine.specs.State.{Keyed, joined};
 ghost use Rattle.rearrange.specs.Operation.{Attempted};
 use crate::rows::find_row;
 use crate::rows::push_row;
@@ -49,7 +49,7 @@ fn try_move(
     pages: &[u16],
     n: Instruction,
 ) -> Tried
-    requires { ⌜ (length (now pages) ≡ 512) × (key ≡ keyOf (core .sw)) × (group ≡ groupOf (core .sw)) × (group < 16) × (operationOf (n .form) ≡ 47) ⌝ }
+    requires { ⌜ (length (now pages) ≡ 512) × Keyed (core .sw) key group × (operationOf (n .form) ≡ 47) ⌝ }
     ensures { λ r. ⌜ Attempted (r .done) (joined core (now (regs .entry))) (now (memory .entry)) (now (pages .entry)) n (joined (r .core) (now (regs .exit))) (now (memory .exit)) ⌝ }
 {
     let a = field_a(n.first);
@@ -89,7 +89,7 @@ fn try_load(
     pages: &[u16],
     n: Instruction,
 ) -> Tried
-    requires { ⌜ (length (now pages) ≡ 512) × (key ≡ keyOf (core .sw)) × (group ≡ groupOf (core .sw)) × (group < 16) × (operationOf (n .form) ≡ 40) ⌝ }
+    requires { ⌜ (length (now pages) ≡ 512) × Keyed (core .sw) key group × (operationOf (n .form) ≡ 40) ⌝ }
     ensures { λ r. ⌜ Attempted (r .done) (joined core (now (regs .entry))) (now (memory .entry)) (now (pages .entry)) n (joined (r .core) (now (regs .exit))) (now (memory .exit)) ⌝ }
 {
     let count = field_a(n.first) + 1;
@@ -121,7 +121,7 @@ fn try_pop(
     pages: &[u16],
     n: Instruction,
 ) -> Tried
-    requires { ⌜ (length (now pages) ≡ 512) × (key ≡ keyOf (core .sw)) × (group ≡ groupOf (core .sw)) × (group < 16) × (operationOf (n .form) ≡ 44) ⌝ }
+    requires { ⌜ (length (now pages) ≡ 512) × Keyed (core .sw) key group × (operationOf (n .form) ≡ 44) ⌝ }
     ensures { λ r. ⌜ Attempted (r .done) (joined core (now (regs .entry))) (now (memory .entry)) (now (pages .entry)) n (joined (r .core) (now (regs .exit))) (now (memory .exit)) ⌝ }
 {
     let count = registers_from(field_a(n.first), field_b(n.first));
@@ -153,7 +153,7 @@ fn try_store(
     pages: &[u16],
     n: Instruction,
 ) -> Tried
-    requires { ⌜ (length (now pages) ≡ 512) × (key ≡ keyOf (core .sw)) × (group ≡ groupOf (core .sw)) × (group < 16) × (operationOf (n .form) ≡ 50) ⌝ }
+    requires { ⌜ (length (now pages) ≡ 512) × Keyed (core .sw) key group × (operationOf (n .form) ≡ 50) ⌝ }
     ensures { λ r. ⌜ Attempted (r .done) (joined core (now (regs .entry))) (now (memory .entry)) (now (pages .entry)) n (joined (r .core) (now (regs .exit))) (now (memory .exit)) ⌝ }
 {
     let count = field_a(n.first) + 1;
@@ -186,7 +186,7 @@ fn try_push(
     pages: &[u16],
     n: Instruction,
 ) -> Tried
-    requires { ⌜ (length (now pages) ≡ 512) × (key ≡ keyOf (core .sw)) × (group ≡ groupOf (core .sw)) × (group < 16) × (operationOf (n .form) ≡ 54) ⌝ }
+    requires { ⌜ (length (now pages) ≡ 512) × Keyed (core .sw) key group × (operationOf (n .form) ≡ 54) ⌝ }
     ensures { λ r. ⌜ Attempted (r .done) (joined core (now (regs .entry))) (now (memory .entry)) (now (pages .entry)) n (joined (r .core) (now (regs .exit))) (now (memory .exit)) ⌝ }
 {
     let b = field_b(n.first);
@@ -218,7 +218,7 @@ pub fn try_block(
     pages: &[u16],
     n: Instruction,
 ) -> Tried
-    requires { ⌜ (length (now pages) ≡ 512) × (key ≡ keyOf (core .sw)) × (group ≡ groupOf (core .sw)) × (group < 16) ⌝ }
+    requires { ⌜ (length (now pages) ≡ 512) × Keyed (core .sw) key group ⌝ }
     ensures { λ r. ⌜ Attempted (r .done) (joined core (now (regs .entry))) (now (memory .entry)) (now (pages .entry)) n (joined (r .core) (now (regs .exit))) (now (memory .exit)) ⌝ }
 {
     let operation = n.form % 256;

@@ -10,7 +10,7 @@ ghost use lib.ListN.{length};
 ghost use Rattle.page.specs.Pages.{lookup};
 ghost use Rattle.page.specs.Spans.{wrapped, gotAt};
 ghost use Rattle.decode.specs.Forms.{lengthOf, modeOf};
-ghost use Rattle.machine.specs.State.{keyOf, groupOf, joined};
+ghost use Rattle.machine.specs.State.{Keyed, joined};
 ghost use Rattle.machine.specs.Instructions.{view, permitted, readyAt, redirected, derived, granted, decoded};
 ghost use Rattle.isa.specs.Mil1750.{classOf, mil1750};
 use decode::mode;
@@ -87,7 +87,7 @@ fn derive(
     w: u16,
     x: u16,
 ) -> Prepared
-    requires { ⌜ (length (now pages) ≡ 512) × (key ≡ keyOf (core .sw)) × (group ≡ groupOf (core .sw)) × (group < 16) ⌝ }
+    requires { ⌜ (length (now pages) ≡ 512) × Keyed (core .sw) key group ⌝ }
     ensures { λ r. ⌜ r ≡ derived mil1750 (joined core (now (regs .entry)))
         (view core (now (memory .entry)) (now (pages .entry))) form w x (eqb (modeOf form) 7) ⌝ }
 {
@@ -140,7 +140,7 @@ fn extend(
     w: u16,
     at: usize,
 ) -> Prepared
-    requires { ⌜ (length (now pages) ≡ 512) × (key ≡ keyOf (core .sw)) × (group ≡ groupOf (core .sw)) × (group < 16)
+    requires { ⌜ (length (now pages) ≡ 512) × Keyed (core .sw) key group
         × (lookup Access.Fetch key group (now pages) (length (now memory)) (core .ic) ≡ Place.At at) ⌝ }
     ensures { λ r. ⌜ r ≡ granted mil1750 (joined core (now (regs .entry)))
         (view core (now (memory .entry)) (now (pages .entry))) form w true (eqb (lengthOf form) 2) ⌝ }
@@ -165,7 +165,7 @@ pub fn prepare(
     w: u16,
     at: usize,
 ) -> Prepared
-    requires { ⌜ (length (now pages) ≡ 512) × (key ≡ keyOf (core .sw)) × (group ≡ groupOf (core .sw)) × (group < 16)
+    requires { ⌜ (length (now pages) ≡ 512) × Keyed (core .sw) key group
         × (lookup Access.Fetch key group (now pages) (length (now memory)) (core .ic) ≡ Place.At at) ⌝ }
     ensures { λ r. ⌜ r ≡ decoded mil1750 (joined core (now (regs .entry)))
         (view core (now (memory .entry)) (now (pages .entry))) (number % 65536) w (eqb (number % 65536) 0) ⌝ }

@@ -7,7 +7,7 @@ ghost use Prim.Native.Nat.{ℕ, _<_};
 ghost use lib.ListN.{length};
 ghost use Rattle.decode.specs.Forms.{operationOf};
 ghost use Rattle.machine.specs.declared.State.{State};
-ghost use Rattle.machine.specs.State.{keyOf, groupOf, joined, withProcessor};
+ghost use Rattle.machine.specs.State.{Keyed, joined, withProcessor};
 ghost use Rattle.machine.specs.Machine.{Became};
 ghost use Rattle.machine.specs.Instructions as spec;
 ghost use Rattle.machine.specs.Step.{perform};
@@ -109,7 +109,7 @@ pub fn load(
     n: Instruction,
     number: u32,
 ) -> Moved
-    requires { ⌜ (length (now pages) ≡ 512) × (key ≡ keyOf (core .sw)) × (group ≡ groupOf (core .sw)) × (group < 16) × (wayOf (operationOf (n .form)) ≡ 8)
+    requires { ⌜ (length (now pages) ≡ 512) × Keyed (core .sw) key group × (wayOf (operationOf (n .form)) ≡ 8)
         × (number ≡ numberOf (n .form)) ⌝ }
     ensures { λ r. ⌜ ((ports : List ℕ) → Performed (carrying n) core (now (regs .entry)) (now (memory .entry)) (now (pages .entry)) ports
         r (now (regs .entry)) (now (memory .entry)) (now (pages .entry)) ports) ⌝ }

@@ -1,4 +1,4 @@
--- Written by tools/prove.py from answers/direct.py: answer cbeaf37cf08d, proof 39f216f1aec0.
+-- Written by tools/prove.py from answers/direct.py: answer af8d22268dc0, proof 483f3d60f3f6.
 -- `direct::direct` meets its contract. Assumes nothing.
 use Rattle.direct.proofs.direct.Statement.{statement}
 use Rattle.direct.proofs.direct.Tie as tie
@@ -8,19 +8,19 @@ use mathlib.Core.Path.{_∙_}
 use native.Mathlib.Omega.{arith}
 
 into-single-requires : tie.Need-into-single-requires
-into-single-requires c κs = (c .before .before .before .before .before .pre .0, c .before .before .before .before .before .pre .1, c .before .before .before .before .before .pre .2, c .before .before .before .before .before .pre .3, (number-way (c .before .before .before .before .before .args .n .form) (c .before .before .before .before .before .args .number) (c .before .before .before .before .before .pre .4) (search needs) (omega (arith, c .before .before .before .before .before .pre .6)) ∙ omega (arith, c .before .before .before .before .before .pre .5, c .before .before .before .before .before .pre .6)), c .before .before .before .before .before .pre .4)
+into-single-requires c κs = (c .before .before .before .before .before .pre .0, c .before .before .before .before .before .pre .1, (number-way (c .before .before .before .before .before .args .n .form) (c .before .before .before .before .before .args .number) (c .before .before .before .before .before .pre .2) (search needs) (omega (arith, c .before .before .before .before .before .pre .4)) ∙ omega (arith, c .before .before .before .before .before .pre .3, c .before .before .before .before .before .pre .4)), c .before .before .before .before .before .pre .2)
 
 into-double-requires : tie.Need-into-double-requires
-into-double-requires c κs = (c .before .before .before .before .before .before .pre .0, c .before .before .before .before .before .before .pre .1, c .before .before .before .before .before .before .pre .2, c .before .before .before .before .before .before .pre .3, (number-way (c .before .before .before .before .before .before .args .n .form) (c .before .before .before .before .before .before .args .number) (c .before .before .before .before .before .before .pre .4) (search needs) (omega (arith, c .before .before .before .before .before .before .pre .6)) ∙ omega (arith, c .before .before .before .before .before .before .pre .5, c .before .before .before .before .before .before .pre .6)), c .before .before .before .before .before .before .pre .4)
+into-double-requires c κs = (c .before .before .before .before .before .before .pre .0, c .before .before .before .before .before .before .pre .1, (number-way (c .before .before .before .before .before .before .args .n .form) (c .before .before .before .before .before .before .args .number) (c .before .before .before .before .before .before .pre .2) (search needs) (omega (arith, c .before .before .before .before .before .before .pre .4)) ∙ omega (arith, c .before .before .before .before .before .before .pre .3, c .before .before .before .before .before .before .pre .4)), c .before .before .before .before .before .before .pre .2)
 
 store-one-requires : tie.Need-store-one-requires
-store-one-requires c κs = (c .before .before .before .before .before .before .before .pre .0, c .before .before .before .before .before .before .before .pre .1, c .before .before .before .before .before .before .before .pre .2, c .before .before .before .before .before .before .before .pre .3, (number-way (c .before .before .before .before .before .before .before .args .n .form) (c .before .before .before .before .before .before .before .args .number) (c .before .before .before .before .before .before .before .pre .4) (search needs) (omega (arith, c .before .before .before .before .before .before .before .pre .6)) ∙ omega (arith, c .before .before .before .before .before .before .before .pre .5, c .before .before .before .before .before .before .before .pre .6)), c .before .before .before .before .before .before .before .pre .4)
+store-one-requires c κs = (c .before .before .before .before .before .before .before .pre .0, c .before .before .before .before .before .before .before .pre .1, (number-way (c .before .before .before .before .before .before .before .args .n .form) (c .before .before .before .before .before .before .before .args .number) (c .before .before .before .before .before .before .before .pre .2) (search needs) (omega (arith, c .before .before .before .before .before .before .before .pre .4)) ∙ omega (arith, c .before .before .before .before .before .before .before .pre .3, c .before .before .before .before .before .before .before .pre .4)), c .before .before .before .before .before .before .before .pre .2)
 
 branch-requires : tie.Need-branch-requires
-branch-requires c κs = (number-way (c .before .before .before .before .before .before .args .n .form) (c .before .before .before .before .before .before .args .number) (c .before .before .before .before .before .before .pre .4) (search needs) (omega (arith, c .before .before .before .before .before .before .pre .6)) ∙ omega (arith, c .before .before .before .before .before .before .pre .5, c .before .before .before .before .before .before .pre .6))
+branch-requires c κs = (number-way (c .before .before .before .before .before .before .args .n .form) (c .before .before .before .before .before .before .args .number) (c .before .before .before .before .before .before .pre .2) (search needs) (omega (arith, c .before .before .before .before .before .before .pre .4)) ∙ omega (arith, c .before .before .before .before .before .before .pre .3, c .before .before .before .before .before .before .pre .4))
 
 store-two-requires : tie.Need-store-two-requires
-store-two-requires c κs = (c .before .before .before .before .before .before .before .before .pre .0, c .before .before .before .before .before .before .before .before .pre .1, c .before .before .before .before .before .before .before .before .pre .2, c .before .before .before .before .before .before .before .before .pre .3, (number-way (c .before .before .before .before .before .before .before .before .args .n .form) (c .before .before .before .before .before .before .before .before .args .number) (c .before .before .before .before .before .before .before .before .pre .4) (search needs) (omega (arith, c .before .before .before .before .before .before .before .before .pre .6)) ∙ omega (arith, c .before .before .before .before .before .before .before .before .pre .5, c .before .before .before .before .before .before .before .before .pre .6)), c .before .before .before .before .before .before .before .before .pre .4)
+store-two-requires c κs = (c .before .before .before .before .before .before .before .before .pre .0, c .before .before .before .before .before .before .before .before .pre .1, (number-way (c .before .before .before .before .before .before .before .before .args .n .form) (c .before .before .before .before .before .before .before .before .args .number) (c .before .before .before .before .before .before .before .before .pre .2) (search needs) (omega (arith, c .before .before .before .before .before .before .before .before .pre .4)) ∙ omega (arith, c .before .before .before .before .before .before .before .before .pre .3, c .before .before .before .before .before .before .before .before .pre .4)), c .before .before .before .before .before .before .before .before .pre .2)
 
 returns-4 : tie.Need-returns-4
 returns-4 c = c .branch .ensures (c .before .before .before .before .before .before .before .args .regs .now) (c .before .before .before .before .before .before .before .args .memory .now) (c .before .before .before .before .before .before .before .args .pages .now)

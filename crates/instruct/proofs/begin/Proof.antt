@@ -1,4 +1,4 @@
--- Written by tools/prove.py from answers/instruct.py: answer 2885e22a759d, proof c4cc3399783d.
+-- Written by tools/prove.py from answers/instruct.py: answer d3dbb702ddd1, proof 8db27ebf2b63.
 -- `instruct::begin` meets its contract. Assumes nothing.
 use Prim.Native.Nat.{_%_}
 use Rattle.decode.specs.Decode.{decodeOf}
@@ -15,18 +15,18 @@ use borrow.Author.Needs.{needs}
 use mathlib.Core.Path.{refl, sym, ap, _∙_}
 
 prepare-requires : tie.Need-prepare-requires
-prepare-requires c κs = (c .before .before .before .before .before .before .pre .0, c .before .before .before .before .before .before .pre .2, c .before .before .before .before .before .before .pre .3, c .before .before .before .before .before .before .pre .4, c .before .before .before .before .before .before .pre .6)
+prepare-requires c κs = (c .before .before .before .before .before .before .pre .0, c .before .before .before .before .before .before .pre .2, c .before .before .before .before .before .before .pre .4)
 
 carry-requires : tie.Need-carry-requires
-carry-requires c κs = (c .before .before .before .before .before .before .before .before .before .before .before .before .before .before .pre .0, c .before .before .before .before .before .before .before .before .before .before .before .before .before .before .pre .1, c .before .before .before .before .before .before .before .before .before .before .before .before .before .before .pre .2, c .before .before .before .before .before .before .before .before .before .before .before .before .before .before .pre .3, c .before .before .before .before .before .before .before .before .before .before .before .before .before .before .pre .4, c .before .before .before .before .before .before .before .before .before .before .before .before .before .before .pre .5 ∙ ap numberOf (sym (ready-form (joined (c .before .before .before .before .before .before .before .before .before .before .before .before .before .before .args .core) (c .before .before .before .before .before .before .before .before .before .before .before .before .before .before .args .regs .now)) (view (c .before .before .before .before .before .before .before .before .before .before .before .before .before .before .args .core) (c .before .before .before .before .before .before .before .before .before .before .before .before .before .before .args .memory .now) (c .before .before .before .before .before .before .before .before .before .before .before .before .before .before .args .pages .now)) _ _ _ _ (sym (c .before .before .before .before .before .before .before .prepare .ensures) ∙ c .before .before .before .before .before .prepared .given .1) ∙ (ap (λ m. m % 65536) (c .before .before .before .before .before .before .before .before .before .before .before .before .before .before .pre .5) ∙ number-form (decodeOf (c .before .before .before .before .before .before .before .before .before .before .before .before .before .before .args .w)) (decode-small (c .before .before .before .before .before .before .before .before .before .before .before .before .before .before .args .w))))))
+carry-requires c κs = (c .before .before .before .before .before .before .before .before .before .before .before .before .before .before .pre .0, c .before .before .before .before .before .before .before .before .before .before .before .before .before .before .pre .1, c .before .before .before .before .before .before .before .before .before .before .before .before .before .before .pre .2, c .before .before .before .before .before .before .before .before .before .before .before .before .before .before .pre .3 ∙ ap numberOf (sym (ready-form (joined (c .before .before .before .before .before .before .before .before .before .before .before .before .before .before .args .core) (c .before .before .before .before .before .before .before .before .before .before .before .before .before .before .args .regs .now)) (view (c .before .before .before .before .before .before .before .before .before .before .before .before .before .before .args .core) (c .before .before .before .before .before .before .before .before .before .before .before .before .before .before .args .memory .now) (c .before .before .before .before .before .before .before .before .before .before .before .before .before .before .args .pages .now)) _ _ _ _ (sym (c .before .before .before .before .before .before .before .prepare .ensures) ∙ c .before .before .before .before .before .prepared .given .1) ∙ (ap (λ m. m % 65536) (c .before .before .before .before .before .before .before .before .before .before .before .before .before .before .pre .3) ∙ number-form (decodeOf (c .before .before .before .before .before .before .before .before .before .before .before .before .before .before .args .w)) (decode-small (c .before .before .before .before .before .before .before .before .before .before .before .before .before .before .args .w))))))
 
 returns : tie.Need-returns
 unfolding carried
-returns c = (λ s. rw (← (ap (λ m. m % 65536) (c .before .before .before .before .before .before .before .before .before .before .before .before .before .before .before .before .before .before .before .before .before .pre .5) ∙ number-form (decodeOf (c .before .before .before .before .before .before .before .before .before .before .before .before .before .before .before .before .before .before .before .before .before .args .w)) (decode-small (c .before .before .before .before .before .before .before .before .before .before .before .before .before .before .before .before .before .before .before .before .before .args .w))), ← c .before .before .before .before .before .before .before .before .before .before .before .before .before .before .prepare .ensures, c .before .before .before .before .before .before .before .before .before .before .before .before .prepared .given .1) (c .before .before .before .before .before .before .carry .ensures .0 s), c .before .before .before .before .before .before .carry .ensures .1)
+returns c = (λ s. rw (← (ap (λ m. m % 65536) (c .before .before .before .before .before .before .before .before .before .before .before .before .before .before .before .before .before .before .before .before .before .pre .3) ∙ number-form (decodeOf (c .before .before .before .before .before .before .before .before .before .before .before .before .before .before .before .before .before .before .before .before .before .args .w)) (decode-small (c .before .before .before .before .before .before .before .before .before .before .before .before .before .before .before .before .before .before .before .before .before .args .w))), ← c .before .before .before .before .before .before .before .before .before .before .before .before .before .before .prepare .ensures, c .before .before .before .before .before .before .before .before .before .before .before .before .prepared .given .1) (c .before .before .before .before .before .before .carry .ensures .0 s), c .before .before .before .before .before .before .carry .ensures .1)
 
 returns-2 : tie.Need-returns-2
 unfolding carried
-returns-2 c = (λ s. rw (c .deny .ensures, timer-none _ _, ← (ap (λ m. m % 65536) (c .before .before .before .before .before .before .before .before .before .before .before .pre .5) ∙ number-form (decodeOf (c .before .before .before .before .before .before .before .before .before .before .before .args .w)) (decode-small (c .before .before .before .before .before .before .before .before .before .before .before .args .w))), ← c .before .before .before .before .prepare .ensures, c .before .before .prepared2 .given .1) (failed (withProcessor s (joined (c .before .before .before .before .before .before .before .before .before .before .before .args .core) (c .before .before .before .before .before .before .before .before .before .before .before .args .regs .now))) _ (c .before .before .before .before .before .before .before .before .before .before .before .args .memory .now) _ (c .before .before .before .before .before .before .before .before .before .before .before .args .pages .now) (c .before .before .before .before .before .before .before .before .before .before .before .args .ports .now) _ _ (refl) refl), rw (c .deny .ensures) (unsettled-lasting _ _ refl))
+returns-2 c = (λ s. rw (c .deny .ensures, timer-none _ _, ← (ap (λ m. m % 65536) (c .before .before .before .before .before .before .before .before .before .before .before .pre .3) ∙ number-form (decodeOf (c .before .before .before .before .before .before .before .before .before .before .before .args .w)) (decode-small (c .before .before .before .before .before .before .before .before .before .before .before .args .w))), ← c .before .before .before .before .prepare .ensures, c .before .before .prepared2 .given .1) (failed (withProcessor s (joined (c .before .before .before .before .before .before .before .before .before .before .before .args .core) (c .before .before .before .before .before .before .before .before .before .before .before .args .regs .now))) _ (c .before .before .before .before .before .before .before .before .before .before .before .args .memory .now) _ (c .before .before .before .before .before .before .before .before .before .before .before .args .pages .now) (c .before .before .before .before .before .before .before .before .before .before .before .args .ports .now) _ _ (refl) refl), rw (c .deny .ensures) (unsettled-lasting _ _ refl))
 
 pub begin-spec : {M : Type 1} → statement M
 begin-spec =

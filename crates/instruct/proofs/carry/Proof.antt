@@ -1,4 +1,4 @@
--- Written by tools/prove.py from answers/instruct.py: answer 6c5360eb759f, proof c73d138c8df4.
+-- Written by tools/prove.py from answers/instruct.py: answer 7dfd55f429f1, proof 923dc2e86a7b.
 -- `instruct::carry` meets its contract. Assumes nothing.
 use Rattle.instruct.proofs.UserLaws.{on-block, off-block}
 use Rattle.instruct.proofs.carry.Statement.{statement}
@@ -9,22 +9,22 @@ use mathlib.Core.Path.{refl, _∙_}
 use native.Mathlib.Omega.{arith}
 
 carry-direct-requires : tie.Need-carry-direct-requires
-carry-direct-requires c κs = (c .before .before .before .before .before .before .before .pre .0, c .before .before .before .before .before .before .before .pre .2, c .before .before .before .before .before .before .before .pre .3, c .before .before .before .before .before .before .before .pre .4, c .before .before .before .before .before .before .before .pre .5, number-least (c .before .before .before .before .before .before .before .args .n .form) (c .before .before .before .before .before .before .before .args .number) (c .before .before .before .before .before .before .before .pre .5) (search needs), omega arith)
+carry-direct-requires c κs = (c .before .before .before .before .before .before .before .pre .0, c .before .before .before .before .before .before .before .pre .2, c .before .before .before .before .before .before .before .pre .3, number-least (c .before .before .before .before .before .before .before .args .n .form) (c .before .before .before .before .before .before .before .args .number) (c .before .before .before .before .before .before .before .pre .3) (search needs), omega arith)
 
 command-requires : tie.Need-command-requires
-command-requires c κs = (c .before .before .before .before .before .before .before .before .pre .0, c .before .before .before .before .before .before .before .before .pre .1, (number-way (c .before .before .before .before .before .before .before .before .args .n .form) (c .before .before .before .before .before .before .before .before .args .number) (c .before .before .before .before .before .before .before .before .pre .5) (search needs) (omega arith) ∙ omega arith))
+command-requires c κs = (c .before .before .before .before .before .before .before .before .pre .0, c .before .before .before .before .before .before .before .before .pre .1, (number-way (c .before .before .before .before .before .before .before .before .args .n .form) (c .before .before .before .before .before .before .before .before .args .number) (c .before .before .before .before .before .before .before .before .pre .3) (search needs) (omega arith) ∙ omega arith))
 
 executive-requires : tie.Need-executive-requires
-executive-requires c κs = (c .before .before .before .before .before .before .before .before .pre .0, (number-way (c .before .before .before .before .before .before .before .before .args .n .form) (c .before .before .before .before .before .before .before .before .args .number) (c .before .before .before .before .before .before .before .before .pre .5) (search needs) (omega arith) ∙ omega arith))
+executive-requires c κs = (c .before .before .before .before .before .before .before .before .pre .0, (number-way (c .before .before .before .before .before .before .before .before .args .n .form) (c .before .before .before .before .before .before .before .before .args .number) (c .before .before .before .before .before .before .before .before .pre .3) (search needs) (omega arith) ∙ omega arith))
 
 load-requires : tie.Need-load-requires
-load-requires c κs = (c .before .before .before .before .before .before .before .before .before .before .pre .0, c .before .before .before .before .before .before .before .before .before .before .pre .2, c .before .before .before .before .before .before .before .before .before .before .pre .3, c .before .before .before .before .before .before .before .before .before .before .pre .4, (number-way (c .before .before .before .before .before .before .before .before .before .before .args .n .form) (c .before .before .before .before .before .before .before .before .before .before .args .number) (c .before .before .before .before .before .before .before .before .before .before .pre .5) (search needs) (omega arith) ∙ omega arith), c .before .before .before .before .before .before .before .before .before .before .pre .5)
+load-requires c κs = (c .before .before .before .before .before .before .before .before .before .before .pre .0, c .before .before .before .before .before .before .before .before .before .before .pre .2, (number-way (c .before .before .before .before .before .before .before .before .before .before .args .n .form) (c .before .before .before .before .before .before .before .before .before .before .args .number) (c .before .before .before .before .before .before .before .before .before .before .pre .3) (search needs) (omega arith) ∙ omega arith), c .before .before .before .before .before .before .before .before .before .before .pre .3)
 
 carry-block-requires : tie.Need-carry-block-requires
-carry-block-requires c κs = (c .before .before .before .before .before .before .before .before .before .before .before .pre .0, on-block (c .before .before .before .before .before .before .before .before .before .before .before .args .n .form) _ refl (number-block (c .before .before .before .before .before .before .before .before .before .before .before .args .n .form) (c .before .before .before .before .before .before .before .before .before .before .before .args .number) (c .before .before .before .before .before .before .before .before .before .before .before .pre .5) (search needs) (omega arith) (omega arith)), c .before .before .before .before .before .before .before .before .before .before .before .pre .2, c .before .before .before .before .before .before .before .before .before .before .before .pre .3, c .before .before .before .before .before .before .before .before .before .before .before .pre .4)
+carry-block-requires c κs = (c .before .before .before .before .before .before .before .before .before .before .before .pre .0, on-block (c .before .before .before .before .before .before .before .before .before .before .before .args .n .form) _ refl (number-block (c .before .before .before .before .before .before .before .before .before .before .before .args .n .form) (c .before .before .before .before .before .before .before .before .before .before .before .args .number) (c .before .before .before .before .before .before .before .before .before .before .before .pre .3) (search needs) (omega arith) (omega arith)), c .before .before .before .before .before .before .before .before .before .before .before .pre .2)
 
 carry-ordinary-requires : tie.Need-carry-ordinary-requires
-carry-ordinary-requires c κs = (c .before .before .before .before .before .before .before .before .before .before .before .pre .0, c .before .before .before .before .before .before .before .before .before .before .before .pre .2, c .before .before .before .before .before .before .before .before .before .before .before .pre .3, c .before .before .before .before .before .before .before .before .before .before .before .pre .4, c .before .before .before .before .before .before .before .before .before .before .before .pre .5, off-block (c .before .before .before .before .before .before .before .before .before .before .before .args .n .form) _ refl (λ z. let y = (number-rest (c .before .before .before .before .before .before .before .before .before .before .before .args .n .form) (c .before .before .before .before .before .before .before .before .before .before .before .args .number) (c .before .before .before .before .before .before .before .before .before .before .before .pre .5) (search needs) (omega arith)) .1 in omega (arith, y, z)), (number-rest (c .before .before .before .before .before .before .before .before .before .before .before .args .n .form) (c .before .before .before .before .before .before .before .before .before .before .before .args .number) (c .before .before .before .before .before .before .before .before .before .before .before .pre .5) (search needs) (omega arith)) .0)
+carry-ordinary-requires c κs = (c .before .before .before .before .before .before .before .before .before .before .before .pre .0, c .before .before .before .before .before .before .before .before .before .before .before .pre .2, c .before .before .before .before .before .before .before .before .before .before .before .pre .3, off-block (c .before .before .before .before .before .before .before .before .before .before .before .args .n .form) _ refl (λ z. let y = (number-rest (c .before .before .before .before .before .before .before .before .before .before .before .args .n .form) (c .before .before .before .before .before .before .before .before .before .before .before .args .number) (c .before .before .before .before .before .before .before .before .before .before .before .pre .3) (search needs) (omega arith)) .1 in omega (arith, y, z)), (number-rest (c .before .before .before .before .before .before .before .before .before .before .before .args .n .form) (c .before .before .before .before .before .before .before .before .before .before .before .args .number) (c .before .before .before .before .before .before .before .before .before .before .before .pre .3) (search needs) (omega arith)) .0)
 
 returns : tie.Need-returns
 returns c = c .before .before .carry-direct .ensures (c .before .before .before .before .before .before .before .before .before .before .args .ports .now)

@@ -1,4 +1,4 @@
--- Written by tools/prove.py from answers/instruct.py: answer 6e8ac935c4cd, proof e3f8c2c3123c.
+-- Written by tools/prove.py from answers/instruct.py: answer 5abf4774e50f, proof 1943aaec429d.
 -- `instruct::carry_block` meets its contract. Assumes nothing.
 use Rattle.instruct.proofs.UserLaws.{became-worked, block-user, settled-by}
 use Rattle.instruct.proofs.carry_block.Statement.{statement}
@@ -13,7 +13,7 @@ use borrow.Author.Needs.{needs}
 use mathlib.Core.Path.{refl}
 
 try-block-requires : tie.Need-try-block-requires
-try-block-requires c κs = (c .before .before .before .before .pre .0, c .before .before .before .before .pre .2, c .before .before .before .before .pre .3, c .before .before .before .before .pre .4)
+try-block-requires c κs = (c .before .before .before .before .pre .0, c .before .before .before .before .pre .2)
 
 returns : tie.Need-returns
 unfolding operated mil1750 contextOf

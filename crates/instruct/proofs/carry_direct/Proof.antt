@@ -1,4 +1,4 @@
--- Written by tools/prove.py from answers/instruct.py: answer fb609e40ed21, proof 36c1e900e2b0.
+-- Written by tools/prove.py from answers/instruct.py: answer e67e2599582d, proof 357d4fe933a1.
 -- `instruct::carry_direct` meets its contract. Assumes nothing.
 use Rattle.instruct.proofs.UserLaws.{became-worked, settled-by}
 use Rattle.instruct.proofs.carry_direct.Statement.{statement}
@@ -12,7 +12,7 @@ use borrow.Author.Needs.{needs}
 use mathlib.Core.Path.{refl, ap}
 
 direct-requires : tie.Need-direct-requires
-direct-requires c κs = (c .before .before .before .before .pre .0, c .before .before .before .before .pre .1, c .before .before .before .before .pre .2, c .before .before .before .before .pre .3, c .before .before .before .before .pre .4, c .before .before .before .before .pre .5, c .before .before .before .before .pre .6)
+direct-requires c κs = (c .before .before .before .before .pre .0, c .before .before .before .before .pre .1, c .before .before .before .before .pre .2, c .before .before .before .before .pre .3, c .before .before .before .before .pre .4)
 
 returns : tie.Need-returns
 unfolding operated mil1750 contextOf

@@ -1,4 +1,4 @@
--- Written by tools/prove.py from answers/prepare.py: answer 843a9a0f4594, proof fdd3ff548ccc.
+-- Written by tools/prove.py from answers/prepare.py: answer 9fd0dc9f44c6, proof a7880b7e992b.
 -- `prepare::prepare` meets its contract. Assumes nothing.
 use Rattle.isa.specs.Mil1750.{mil1750}
 use Rattle.machine.specs.Instructions.{decoded, granted}
@@ -15,11 +15,11 @@ returns c = rw (eq-eqb _ _ (c .before .if1 .taken), ← c .advance .ensures) ref
 
 returns-2 : tie.Need-returns-2
 unfolding decoded granted advanced mil1750
-returns-2 c = rw (ne-eqb _ _ (c .before .before .before .before .if1 .left), ← c .before .before .before .before .before .before .before .pre .1, ← c .before .before .before .before .before .before .before .pre .2, ← c .before .before .before .class-of .ensures, ← c .before .before .permit .ensures, c .before .if2 .taken, c .before .before .before .before .before .before .before .pre .1, c .before .before .before .before .before .before .before .pre .2) (c .extend .ensures)
+returns-2 c = rw (ne-eqb _ _ (c .before .before .before .before .if1 .left), ← (c .before .before .before .before .before .before .before .pre .1 .key-is), ← (c .before .before .before .before .before .before .before .pre .1 .group-is), ← c .before .before .before .class-of .ensures, ← c .before .before .permit .ensures, c .before .if2 .taken, (c .before .before .before .before .before .before .before .pre .1 .key-is), (c .before .before .before .before .before .before .before .pre .1 .group-is)) (c .extend .ensures)
 
 returns-3 : tie.Need-returns-3
 unfolding decoded granted advanced mil1750
-returns-3 c = rw (ne-eqb _ _ (c .before .before .before .before .if1 .left), ← c .before .before .before .before .before .before .before .pre .1, ← c .before .before .before .before .before .before .before .pre .2, ← c .before .before .before .class-of .ensures, ← c .before .before .permit .ensures, c .before .if2 .left, ← c .advance2 .ensures) refl
+returns-3 c = rw (ne-eqb _ _ (c .before .before .before .before .if1 .left), ← (c .before .before .before .before .before .before .before .pre .1 .key-is), ← (c .before .before .before .before .before .before .before .pre .1 .group-is), ← c .before .before .before .class-of .ensures, ← c .before .before .permit .ensures, c .before .if2 .left, ← c .advance2 .ensures) refl
 
 pub prepare-spec : {M : Type 1} → statement M
 prepare-spec =

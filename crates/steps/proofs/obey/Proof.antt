@@ -1,11 +1,11 @@
--- Written by tools/prove.py from answers/steps.py: answer 9a1ced555edb, proof 4a9292d02e0d.
+-- Written by tools/prove.py from answers/steps.py: answer 54f517733569, proof df937bfa3580.
 -- `steps::obey` meets its contract. Assumes nothing.
 use Prim.Native.Nat.{ℕ, _+_, _≤_, _<_, _-_}
 use Rattle.clock.proofs.LaterLaws.{calm-fewer}
 use Rattle.clock.specs.Later.{Calm, later}
 use Rattle.isa.specs.Mil1750.{mil1750}
 use Rattle.machine.specs.Entries.{chosen}
-use Rattle.machine.specs.State.{keyOf, groupOf, withClock}
+use Rattle.machine.specs.State.{keyOf, groupOf, Keyed, withClock}
 use Rattle.machine.specs.declared.State.{State}
 use Rattle.steps.proofs.StepLaws.{going, row-made, row-on, sw-released, hold-released, chosen-released, chosen-settled}
 use Rattle.steps.proofs.obey.Statement.{statement}
@@ -18,7 +18,7 @@ use mathlib.Core.Path.{_≡_, refl, sym, ap, _∙_}
 use native.Mathlib.Omega.{arith}
 
 abbrev Inv-loop : tie.InvT-loop
-Inv-loop from most regs₀ memory₀ pages₀ ports₀ table key group end t₀ lag₀ regs memory pages ports t lag = (length memory ≡ length memory₀) × (length pages ≡ length pages₀) × (length ports ≡ length ports₀) × (lag₀ ≤ lag) × (lag < end) × (end ≤ most) × (key ≡ keyOf (t .sw)) × (group ≡ groupOf (t .sw)) × (t .hold ≡ false) × (lag + 1 < end → 16 ≤ chosen t) × ((s : State) → Calm (most - 1) (s .clock) → (k : ℕ) → going mil1750 (k + (lag - lag₀)) (lateAt s lag₀ t₀ regs₀) memory₀ pages₀ ports₀ ≡ going mil1750 k (lateAt s lag t regs) memory pages ports)
+Inv-loop from most regs₀ memory₀ pages₀ ports₀ table key group end t₀ lag₀ regs memory pages ports t lag = (length memory ≡ length memory₀) × (length pages ≡ length pages₀) × (length ports ≡ length ports₀) × (lag₀ ≤ lag) × (lag < end) × (end ≤ most) × Keyed (t .sw) key group × (t .hold ≡ false) × (lag + 1 < end → 16 ≤ chosen t) × ((s : State) → Calm (most - 1) (s .clock) → (k : ℕ) → going mil1750 (k + (lag - lag₀)) (lateAt s lag₀ t₀ regs₀) memory₀ pages₀ ports₀ ≡ going mil1750 k (lateAt s lag t regs) memory pages ports)
 
 abbrev μ-loop : tie.MeasureT-loop
 μ-loop from most regs₀ memory₀ pages₀ ports₀ table key group end t₀ lag₀ regs memory pages ports t lag = end - lag
@@ -36,10 +36,10 @@ release-requires : tie.Need-release-requires Inv-loop μ-loop
 release-requires c κs = omega arith
 
 loop-holds : tie.Need-loop-holds Inv-loop μ-loop
-loop-holds c = (refl, refl, refl, omega arith, c .before .end-of .ensures .1, c .before .end-of .ensures .2, c .before .before .before .key-of .ensures .0 ∙ ap keyOf (sw-released _ _ (c .release .ensures)), c .before .before .group-of .ensures .0 ∙ ap groupOf (sw-released _ _ (c .release .ensures)), hold-released _ _ (c .release .ensures), λ h. rw (chosen-released _ _ (c .release .ensures) (c .before .end-of .ensures .3 h)) (c .before .before .before .before .before .before .before .pre .4), λ s q k. ap (λ j. going mil1750 j (lateAt s (c .before .before .before .before .before .before .before .args .from) (c .release .result) (c .before .before .before .before .before .before .before .args .regs .now)) (c .before .before .before .before .before .before .before .args .memory .now) (c .before .before .before .before .before .before .before .args .pages .now) (c .before .before .before .before .before .before .before .args .ports .now)) (omega arith))
+loop-holds c = (refl, refl, refl, omega arith, c .before .end-of .ensures .1, c .before .end-of .ensures .2, record { key-is = c .before .before .before .key-of .ensures .0 ∙ ap keyOf (sw-released _ _ (c .release .ensures)); group-is = c .before .before .group-of .ensures .0 ∙ ap groupOf (sw-released _ _ (c .release .ensures)); group-small = c .before .before .group-of .ensures .1 }, hold-released _ _ (c .release .ensures), λ h. rw (chosen-released _ _ (c .release .ensures) (c .before .end-of .ensures .3 h)) (c .before .before .before .before .before .before .before .pre .4), λ s q k. ap (λ j. going mil1750 j (lateAt s (c .before .before .before .before .before .before .before .args .from) (c .release .result) (c .before .before .before .before .before .before .before .args .regs .now)) (c .before .before .before .before .before .before .before .args .memory .now) (c .before .before .before .before .before .before .before .args .pages .now) (c .before .before .before .before .before .before .before .args .ports .now)) (omega arith))
 
 instruct-requires : tie.Need-instruct-requires Inv-loop μ-loop
-instruct-requires c κs = (omega arith, omega arith, c .before .before .before .before .before .before .before .before .before .before .before .before .pre .2, c .before .before .before .before .loop .inv .6, c .before .before .before .before .loop .inv .7, c .before .before .before .before .before .before .before .group-of .ensures .1)
+instruct-requires c κs = (omega arith, omega arith, c .before .before .before .before .before .before .before .before .before .before .before .before .pre .2, c .before .before .before .before .loop .inv .6)
 
 add-lag : tie.Need-add-lag Inv-loop μ-loop
 add-lag c = omega (arith, c .before .before .before .before .before .before .before .before .before .before .before .before .loop .inv .4)
@@ -57,7 +57,7 @@ same-length-3 : tie.Need-same-length-3 Inv-loop μ-loop
 same-length-3 c = let l = c .before .before .before .before .before .before .before .before .before .before .before .before .before .before .before .loop in c .before .before .before .before .before .before .before .before .before .before .instruct .kept .1 .1 .1 .1 .1 .1 .0 ∙ l .inv .2
 
 returns : tie.Need-returns Inv-loop μ-loop
-returns c = let l = c .before .before .before .before .before .before .before .before .before .before .before .before .before .before .before .loop in rw (c .ended .ensures) (record { onward = omega (arith, l .inv .3); within = omega (arith, l .inv .4, l .inv .5); made = λ s q. row-made mil1750 s (c .before .before .before .before .before .before .before .before .before .before .before .before .before .before .before .before .before .before .before .before .before .before .before .args .from) (l .lag) (l .inv .3) _ _ (c .before .before .before .before .before .before .before .before .before .before .before .before .before .before .before .before .before .before .before .before .before .before .before .args .regs .now) (c .before .before .before .before .before .before .before .before .before .before .before .before .before .before .before .before .before .before .before .before .before .before .before .args .memory .now) (c .before .before .before .before .before .before .before .before .before .before .before .before .before .before .before .before .before .before .before .before .before .before .before .args .pages .now) (c .before .before .before .before .before .before .before .before .before .before .before .before .before .before .before .before .before .before .before .before .before .before .before .args .ports .now) (l .regs) (l .memory) (l .pages) (l .ports) (l .inv .10 s q) (c .before .before .before .before .before .before .before .before .before .before .instruct .result) _ _ _ _ (c .before .before .before .before .before .before .before .before .before .before .instruct .ensures .0 (withClock s (later (l .lag) (s .clock)))) (c .before .before .before .before .before .before .before .before .before .before .before .before .before .before .before .before .before .before .before .before .before .before .before .args .core) (c .before .before .before .before .before .before .before .before .before .before .before .before .before .before .before .before .release .ensures) (c .before .before .before .before .before .before .before .before .before .before .before .before .before .before .before .before .before .before .before .before .before .before .before .pre .4) })
+returns c = let l = c .before .before .before .before .before .before .before .before .before .before .before .before .before .before .before .loop in rw (c .ended .ensures) (record { onward = omega (arith, l .inv .3); within = omega (arith, l .inv .4, l .inv .5); made = λ s q. row-made mil1750 s (c .before .before .before .before .before .before .before .before .before .before .before .before .before .before .before .before .before .before .before .before .before .before .before .args .from) (l .lag) (l .inv .3) _ _ (c .before .before .before .before .before .before .before .before .before .before .before .before .before .before .before .before .before .before .before .before .before .before .before .args .regs .now) (c .before .before .before .before .before .before .before .before .before .before .before .before .before .before .before .before .before .before .before .before .before .before .before .args .memory .now) (c .before .before .before .before .before .before .before .before .before .before .before .before .before .before .before .before .before .before .before .before .before .before .before .args .pages .now) (c .before .before .before .before .before .before .before .before .before .before .before .before .before .before .before .before .before .before .before .before .before .before .before .args .ports .now) (l .regs) (l .memory) (l .pages) (l .ports) (l .inv .9 s q) (c .before .before .before .before .before .before .before .before .before .before .instruct .result) _ _ _ _ (c .before .before .before .before .before .before .before .before .before .before .instruct .ensures .0 (withClock s (later (l .lag) (s .clock)))) (c .before .before .before .before .before .before .before .before .before .before .before .before .before .before .before .before .before .before .before .before .before .before .before .args .core) (c .before .before .before .before .before .before .before .before .before .before .before .before .before .before .before .before .release .ensures) (c .before .before .before .before .before .before .before .before .before .before .before .before .before .before .before .before .before .before .before .before .before .before .before .pre .4) })
 
 ended-requires-2 : tie.Need-ended-requires-2 Inv-loop μ-loop
 ended-requires-2 c κs = omega arith
@@ -72,13 +72,13 @@ same-length-6 : tie.Need-same-length-6 Inv-loop μ-loop
 same-length-6 c = let l = c .before .before .before .before .before .before .before .before .before .before .before .before .before .before .before .before .loop in c .before .before .before .before .before .before .before .before .before .before .before .instruct .kept .1 .1 .1 .1 .1 .1 .0 ∙ l .inv .2
 
 returns-2 : tie.Need-returns-2 Inv-loop μ-loop
-returns-2 c = let l = c .before .before .before .before .before .before .before .before .before .before .before .before .before .before .before .before .loop in rw (c .ended2 .ensures) (record { onward = omega (arith, l .inv .3); within = omega (arith, l .inv .4, l .inv .5); made = λ s q. row-made mil1750 s (c .before .before .before .before .before .before .before .before .before .before .before .before .before .before .before .before .before .before .before .before .before .before .before .before .args .from) (l .lag) (l .inv .3) _ _ (c .before .before .before .before .before .before .before .before .before .before .before .before .before .before .before .before .before .before .before .before .before .before .before .before .args .regs .now) (c .before .before .before .before .before .before .before .before .before .before .before .before .before .before .before .before .before .before .before .before .before .before .before .before .args .memory .now) (c .before .before .before .before .before .before .before .before .before .before .before .before .before .before .before .before .before .before .before .before .before .before .before .before .args .pages .now) (c .before .before .before .before .before .before .before .before .before .before .before .before .before .before .before .before .before .before .before .before .before .before .before .before .args .ports .now) (l .regs) (l .memory) (l .pages) (l .ports) (l .inv .10 s q) (c .before .before .before .before .before .before .before .before .before .before .before .instruct .result) _ _ _ _ (c .before .before .before .before .before .before .before .before .before .before .before .instruct .ensures .0 (withClock s (later (l .lag) (s .clock)))) (c .before .before .before .before .before .before .before .before .before .before .before .before .before .before .before .before .before .before .before .before .before .before .before .before .args .core) (c .before .before .before .before .before .before .before .before .before .before .before .before .before .before .before .before .before .release .ensures) (c .before .before .before .before .before .before .before .before .before .before .before .before .before .before .before .before .before .before .before .before .before .before .before .before .pre .4) })
+returns-2 c = let l = c .before .before .before .before .before .before .before .before .before .before .before .before .before .before .before .before .loop in rw (c .ended2 .ensures) (record { onward = omega (arith, l .inv .3); within = omega (arith, l .inv .4, l .inv .5); made = λ s q. row-made mil1750 s (c .before .before .before .before .before .before .before .before .before .before .before .before .before .before .before .before .before .before .before .before .before .before .before .before .args .from) (l .lag) (l .inv .3) _ _ (c .before .before .before .before .before .before .before .before .before .before .before .before .before .before .before .before .before .before .before .before .before .before .before .before .args .regs .now) (c .before .before .before .before .before .before .before .before .before .before .before .before .before .before .before .before .before .before .before .before .before .before .before .before .args .memory .now) (c .before .before .before .before .before .before .before .before .before .before .before .before .before .before .before .before .before .before .before .before .before .before .before .before .args .pages .now) (c .before .before .before .before .before .before .before .before .before .before .before .before .before .before .before .before .before .before .before .before .before .before .before .before .args .ports .now) (l .regs) (l .memory) (l .pages) (l .ports) (l .inv .9 s q) (c .before .before .before .before .before .before .before .before .before .before .before .instruct .result) _ _ _ _ (c .before .before .before .before .before .before .before .before .before .before .before .instruct .ensures .0 (withClock s (later (l .lag) (s .clock)))) (c .before .before .before .before .before .before .before .before .before .before .before .before .before .before .before .before .before .before .before .before .before .before .before .before .args .core) (c .before .before .before .before .before .before .before .before .before .before .before .before .before .before .before .before .before .release .ensures) (c .before .before .before .before .before .before .before .before .before .before .before .before .before .before .before .before .before .before .before .before .before .before .before .before .pre .4) })
 
 loop-less : tie.Need-loop-less Inv-loop μ-loop
 loop-less c = omega (arith, c .before .before .before .before .before .before .before .before .before .before .before .before .before .before .before .loop .inv .4)
 
 loop-again : tie.Need-loop-again Inv-loop μ-loop
-loop-again c = let l = c .before .before .before .before .before .before .before .before .before .before .before .before .before .before .before .loop in let y = not-false (c .before .before .before .before .before .before .before .before .before .before .instruct .result .settled) (c .before .if1 .left) in let z = c .before .before .before .before .before .before .before .before .before .before .instruct .ensures .1 in let d = z .choice-kept y in (c .before .before .before .before .before .before .before .before .before .before .instruct .kept .1 .1 .1 .1 .0 ∙ l .inv .0, c .before .before .before .before .before .before .before .before .before .before .instruct .kept .1 .1 .1 .1 .1 .0 ∙ l .inv .1, c .before .before .before .before .before .before .before .before .before .before .instruct .kept .1 .1 .1 .1 .1 .1 .0 ∙ l .inv .2, omega (arith, l .inv .3), c .if2 .left, l .inv .5, l .inv .6 ∙ sym (d .key-kept), l .inv .7 ∙ sym (d .group-kept), d .hold-kept ∙ l .inv .8, λ h. rw (chosen-settled _ _ d) (l .inv .9 (c .if2 .left)), λ s q. row-on mil1750 s (c .before .before .before .before .before .before .before .before .before .before .before .before .before .before .before .before .before .before .before .before .before .before .before .args .from) (l .lag) (l .inv .3) _ _ (c .before .before .before .before .before .before .before .before .before .before .before .before .before .before .before .before .before .before .before .before .before .before .before .args .regs .now) (c .before .before .before .before .before .before .before .before .before .before .before .before .before .before .before .before .before .before .before .before .before .before .before .args .memory .now) (c .before .before .before .before .before .before .before .before .before .before .before .before .before .before .before .before .before .before .before .before .before .before .before .args .pages .now) (c .before .before .before .before .before .before .before .before .before .before .before .before .before .before .before .before .before .before .before .before .before .before .before .args .ports .now) (l .regs) (l .memory) (l .pages) (l .ports) (l .inv .10 s q) (c .before .before .before .before .before .before .before .before .before .before .instruct .result) _ _ _ _ (c .before .before .before .before .before .before .before .before .before .before .instruct .ensures .0 (withClock s (later (l .lag) (s .clock)))) (z .all-done y) (d .hold-kept ∙ l .inv .8) (rw (chosen-settled _ _ d) (l .inv .9 (c .if2 .left))) (calm-fewer _ _ _ (omega (arith, c .if2 .left, l .inv .5)) q))
+loop-again c = let l = c .before .before .before .before .before .before .before .before .before .before .before .before .before .before .before .loop in let y = not-false (c .before .before .before .before .before .before .before .before .before .before .instruct .result .settled) (c .before .if1 .left) in let z = c .before .before .before .before .before .before .before .before .before .before .instruct .ensures .1 in let d = z .choice-kept y in (c .before .before .before .before .before .before .before .before .before .before .instruct .kept .1 .1 .1 .1 .0 ∙ l .inv .0, c .before .before .before .before .before .before .before .before .before .before .instruct .kept .1 .1 .1 .1 .1 .0 ∙ l .inv .1, c .before .before .before .before .before .before .before .before .before .before .instruct .kept .1 .1 .1 .1 .1 .1 .0 ∙ l .inv .2, omega (arith, l .inv .3), c .if2 .left, l .inv .5, record { key-is = l .inv .6 .key-is ∙ sym (d .key-kept); group-is = l .inv .6 .group-is ∙ sym (d .group-kept); group-small = l .inv .6 .group-small }, d .hold-kept ∙ l .inv .7, λ h. rw (chosen-settled _ _ d) (l .inv .8 (c .if2 .left)), λ s q. row-on mil1750 s (c .before .before .before .before .before .before .before .before .before .before .before .before .before .before .before .before .before .before .before .before .before .before .before .args .from) (l .lag) (l .inv .3) _ _ (c .before .before .before .before .before .before .before .before .before .before .before .before .before .before .before .before .before .before .before .before .before .before .before .args .regs .now) (c .before .before .before .before .before .before .before .before .before .before .before .before .before .before .before .before .before .before .before .before .before .before .before .args .memory .now) (c .before .before .before .before .before .before .before .before .before .before .before .before .before .before .before .before .before .before .before .before .before .before .before .args .pages .now) (c .before .before .before .before .before .before .before .before .before .before .before .before .before .before .before .before .before .before .before .before .before .before .before .args .ports .now) (l .regs) (l .memory) (l .pages) (l .ports) (l .inv .9 s q) (c .before .before .before .before .before .before .before .before .before .before .instruct .result) _ _ _ _ (c .before .before .before .before .before .before .before .before .before .before .instruct .ensures .0 (withClock s (later (l .lag) (s .clock)))) (z .all-done y) (d .hold-kept ∙ l .inv .7) (rw (chosen-settled _ _ d) (l .inv .8 (c .if2 .left))) (calm-fewer _ _ _ (omega (arith, c .if2 .left, l .inv .5)) q))
 
 pub obey-spec : {M : Type 1} → statement M
 obey-spec =

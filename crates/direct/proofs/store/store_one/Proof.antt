@@ -1,4 +1,4 @@
--- Written by tools/prove.py from answers/direct.py: answer 76dcf46885c8, proof 2cadc7bcd48a.
+-- Written by tools/prove.py from answers/direct.py: answer de4765010500, proof ae3c30282639.
 -- `direct::store::store_one` meets its contract. Assumes nothing.
 use Rattle.accumulate.proofs.EndLaws.{store-done, store-refused, idle-done}
 use Rattle.accumulate.proofs.WayLaws.{way-user, way-reads, way-writes, way-stored, way-store, some-words, no-words, does-store}
@@ -19,7 +19,10 @@ use mathlib.Core.Path.{refl, sym, ap, _∙_}
 use native.Mathlib.Omega.{arith}
 
 write-count-requires : tie.Need-write-count-requires
-write-count-requires c κs = c .before .before .before .before .pre .5
+write-count-requires c κs = c .before .before .before .before .pre .3
+
+look-up-requires : tie.Need-look-up-requires
+look-up-requires c κs = (c .before .before .before .before .before .before .before .pre .0, (c .before .before .before .before .before .before .before .pre .1 .group-small))
 
 mul-memory : tie.Need-mul-memory
 mul-memory c = omega (arith, located-inside _ _ _ _ _ _ _ _ (c .before .before .before .look-up .ensures) (c .before .place .given .1))
@@ -29,19 +32,19 @@ slice-write-memory c = located-inside _ _ _ _ _ _ _ _ (c .before .before .before
 
 returns : tie.Need-returns
 unfolding contextOf effect stored withRegisters
-returns c = store-done (joined (c .before .before .before .before .before .before .before .before .before .before .before .before .args .core) (c .before .before .before .before .before .before .before .before .before .before .before .before .args .regs .now)) (c .before .before .before .before .before .before .before .before .before .before .before .before .args .memory .now) (c .before .before .before .before .before .before .before .before .before .before .before .before .args .pages .now) (c .before .before .before .before .before .before .before .before .before .before .before .before .args .n) (way-user (c .before .before .before .before .before .before .before .before .before .before .before .before .args .n) 3 (c .before .before .before .before .before .before .before .before .before .before .before .before .pre .4) (omega arith)) (way-reads (c .before .before .before .before .before .before .before .before .before .before .before .before .args .n) 3 0 1 (c .before .before .before .before .before .before .before .before .before .before .before .before .pre .4) (omega arith) refl refl refl refl refl (c .before .before .before .before .before .before .before .before .before .before .before .before .args .regs .now)) _ _ (c .before .before .before .before .before .before .before .before .before .before .before .before .pre .1) (c .before .before .before .before .before .before .before .before .before .before .before .before .pre .2) ((way-writes (c .before .before .before .before .before .before .before .before .before .before .before .before .args .n) 3 0 1 (c .before .before .before .before .before .before .before .before .before .before .before .before .pre .4) (omega arith) refl refl refl refl refl (c .before .before .before .before .before .before .before .before .before .before .before .before .args .regs .now)) ∙ ap (λ b. spanFrom (c .before .before .before .before .before .before .before .before .before .before .before .before .args .n .address) (cond b 1 0)) (some-words (inMemory (modeOf (c .before .before .before .before .before .before .before .before .before .before .before .before .args .n .form))) 0 _ (way-stored (c .before .before .before .before .before .before .before .before .before .before .before .before .args .n) (omega (arith, (c .before .before .before .before .before .before .before .before .before .before .before .before .pre .4))) _ (c .before .before .before .before .before .before .before .write-count .ensures .0) 1 (way-store (c .before .before .before .before .before .before .before .before .before .before .before .before .args .n) 3 (c .before .before .before .before .before .before .before .before .before .before .before .before .pre .4) (omega arith) 1 refl)) (c .before .before .before .before .before .before .if1 .taken))) _ (c .before .before .before .before .look-up .ensures) _ _ (stored (contextOf (joined (c .before .before .before .before .before .before .before .before .before .before .before .before .args .core) (c .before .before .before .before .before .before .before .before .before .before .before .before .args .regs .now))) (c .before .before .before .before .before .before .before .before .before .before .before .before .args .n) (c .before .before .before .before .before .word-stored .result) 0 0) _ _ _ (c .before .before .place .given .1) refl (does-store (c .before .before .before .before .before .before .before .before .before .before .before .before .args .n) (c .before .before .before .before .before .before .before .before .before .before .before .before .pre .4) _ _ ∙ ap (λ x. stored (contextOf (joined (c .before .before .before .before .before .before .before .before .before .before .before .before .args .core) (c .before .before .before .before .before .before .before .before .before .before .before .before .args .regs .now))) (c .before .before .before .before .before .before .before .before .before .before .before .before .args .n) x 0 0) (sym (c .before .before .before .before .before .word-stored .ensures))) (c .done .ensures .0) (c .done .ensures .1 (c .before .before .before .before .before .before .before .before .before .before .before .before .args .regs .now) (stored (contextOf (joined (c .before .before .before .before .before .before .before .before .before .before .before .before .args .core) (c .before .before .before .before .before .before .before .before .before .before .before .before .args .regs .now))) (c .before .before .before .before .before .before .before .before .before .before .before .before .args .n) (c .before .before .before .before .before .word-stored .result) 0 0) (sym (c .before .before .before .before .before .before .before .before .before .following .ensures)) (sym (c .before .before .before .before .before .before .before .before .cs-of .ensures)) refl)
+returns c = store-done (joined (c .before .before .before .before .before .before .before .before .before .before .before .before .args .core) (c .before .before .before .before .before .before .before .before .before .before .before .before .args .regs .now)) (c .before .before .before .before .before .before .before .before .before .before .before .before .args .memory .now) (c .before .before .before .before .before .before .before .before .before .before .before .before .args .pages .now) (c .before .before .before .before .before .before .before .before .before .before .before .before .args .n) (way-user (c .before .before .before .before .before .before .before .before .before .before .before .before .args .n) 3 (c .before .before .before .before .before .before .before .before .before .before .before .before .pre .2) (omega arith)) (way-reads (c .before .before .before .before .before .before .before .before .before .before .before .before .args .n) 3 0 1 (c .before .before .before .before .before .before .before .before .before .before .before .before .pre .2) (omega arith) refl refl refl refl refl (c .before .before .before .before .before .before .before .before .before .before .before .before .args .regs .now)) _ _ (c .before .before .before .before .before .before .before .before .before .before .before .before .pre .1 .key-is) (c .before .before .before .before .before .before .before .before .before .before .before .before .pre .1 .group-is) ((way-writes (c .before .before .before .before .before .before .before .before .before .before .before .before .args .n) 3 0 1 (c .before .before .before .before .before .before .before .before .before .before .before .before .pre .2) (omega arith) refl refl refl refl refl (c .before .before .before .before .before .before .before .before .before .before .before .before .args .regs .now)) ∙ ap (λ b. spanFrom (c .before .before .before .before .before .before .before .before .before .before .before .before .args .n .address) (cond b 1 0)) (some-words (inMemory (modeOf (c .before .before .before .before .before .before .before .before .before .before .before .before .args .n .form))) 0 _ (way-stored (c .before .before .before .before .before .before .before .before .before .before .before .before .args .n) (omega (arith, (c .before .before .before .before .before .before .before .before .before .before .before .before .pre .2))) _ (c .before .before .before .before .before .before .before .write-count .ensures .0) 1 (way-store (c .before .before .before .before .before .before .before .before .before .before .before .before .args .n) 3 (c .before .before .before .before .before .before .before .before .before .before .before .before .pre .2) (omega arith) 1 refl)) (c .before .before .before .before .before .before .if1 .taken))) _ (c .before .before .before .before .look-up .ensures) _ _ (stored (contextOf (joined (c .before .before .before .before .before .before .before .before .before .before .before .before .args .core) (c .before .before .before .before .before .before .before .before .before .before .before .before .args .regs .now))) (c .before .before .before .before .before .before .before .before .before .before .before .before .args .n) (c .before .before .before .before .before .word-stored .result) 0 0) _ _ _ (c .before .before .place .given .1) refl (does-store (c .before .before .before .before .before .before .before .before .before .before .before .before .args .n) (c .before .before .before .before .before .before .before .before .before .before .before .before .pre .2) _ _ ∙ ap (λ x. stored (contextOf (joined (c .before .before .before .before .before .before .before .before .before .before .before .before .args .core) (c .before .before .before .before .before .before .before .before .before .before .before .before .args .regs .now))) (c .before .before .before .before .before .before .before .before .before .before .before .before .args .n) x 0 0) (sym (c .before .before .before .before .before .word-stored .ensures))) (c .done .ensures .0) (c .done .ensures .1 (c .before .before .before .before .before .before .before .before .before .before .before .before .args .regs .now) (stored (contextOf (joined (c .before .before .before .before .before .before .before .before .before .before .before .before .args .core) (c .before .before .before .before .before .before .before .before .before .before .before .before .args .regs .now))) (c .before .before .before .before .before .before .before .before .before .before .before .before .args .n) (c .before .before .before .before .before .word-stored .result) 0 0) (sym (c .before .before .before .before .before .before .before .before .before .following .ensures)) (sym (c .before .before .before .before .before .before .before .before .cs-of .ensures)) refl)
 
 returns-2 : tie.Need-returns-2
 unfolding contextOf effect stored withRegisters
-returns-2 c = store-refused (joined (c .before .before .before .before .before .before .before .before .before .before .before .before .args .core) (c .before .before .before .before .before .before .before .before .before .before .before .before .args .regs .now)) (c .before .before .before .before .before .before .before .before .before .before .before .before .args .memory .now) (c .before .before .before .before .before .before .before .before .before .before .before .before .args .pages .now) (c .before .before .before .before .before .before .before .before .before .before .before .before .args .n) (way-user (c .before .before .before .before .before .before .before .before .before .before .before .before .args .n) 3 (c .before .before .before .before .before .before .before .before .before .before .before .before .pre .4) (omega arith)) (way-reads (c .before .before .before .before .before .before .before .before .before .before .before .before .args .n) 3 0 1 (c .before .before .before .before .before .before .before .before .before .before .before .before .pre .4) (omega arith) refl refl refl refl refl (c .before .before .before .before .before .before .before .before .before .before .before .before .args .regs .now)) _ _ (c .before .before .before .before .before .before .before .before .before .before .before .before .pre .1) (c .before .before .before .before .before .before .before .before .before .before .before .before .pre .2) ((way-writes (c .before .before .before .before .before .before .before .before .before .before .before .before .args .n) 3 0 1 (c .before .before .before .before .before .before .before .before .before .before .before .before .pre .4) (omega arith) refl refl refl refl refl (c .before .before .before .before .before .before .before .before .before .before .before .before .args .regs .now)) ∙ ap (λ b. spanFrom (c .before .before .before .before .before .before .before .before .before .before .before .before .args .n .address) (cond b 1 0)) (some-words (inMemory (modeOf (c .before .before .before .before .before .before .before .before .before .before .before .before .args .n .form))) 0 _ (way-stored (c .before .before .before .before .before .before .before .before .before .before .before .before .args .n) (omega (arith, (c .before .before .before .before .before .before .before .before .before .before .before .before .pre .4))) _ (c .before .before .before .before .before .before .before .write-count .ensures .0) 1 (way-store (c .before .before .before .before .before .before .before .before .before .before .before .before .args .n) 3 (c .before .before .before .before .before .before .before .before .before .before .before .before .pre .4) (omega arith) 1 refl)) (c .before .before .before .before .before .before .if1 .taken))) _ (c .before .before .before .before .look-up .ensures) _ _ _ _ (c .before .before .place2 .given .1) (c .refused .ensures .0) (c .refused .ensures .1) (ap (λ k. joined k (c .before .before .before .before .before .before .before .before .before .before .before .before .args .regs .now)) (c .refused .ensures .2))
+returns-2 c = store-refused (joined (c .before .before .before .before .before .before .before .before .before .before .before .before .args .core) (c .before .before .before .before .before .before .before .before .before .before .before .before .args .regs .now)) (c .before .before .before .before .before .before .before .before .before .before .before .before .args .memory .now) (c .before .before .before .before .before .before .before .before .before .before .before .before .args .pages .now) (c .before .before .before .before .before .before .before .before .before .before .before .before .args .n) (way-user (c .before .before .before .before .before .before .before .before .before .before .before .before .args .n) 3 (c .before .before .before .before .before .before .before .before .before .before .before .before .pre .2) (omega arith)) (way-reads (c .before .before .before .before .before .before .before .before .before .before .before .before .args .n) 3 0 1 (c .before .before .before .before .before .before .before .before .before .before .before .before .pre .2) (omega arith) refl refl refl refl refl (c .before .before .before .before .before .before .before .before .before .before .before .before .args .regs .now)) _ _ (c .before .before .before .before .before .before .before .before .before .before .before .before .pre .1 .key-is) (c .before .before .before .before .before .before .before .before .before .before .before .before .pre .1 .group-is) ((way-writes (c .before .before .before .before .before .before .before .before .before .before .before .before .args .n) 3 0 1 (c .before .before .before .before .before .before .before .before .before .before .before .before .pre .2) (omega arith) refl refl refl refl refl (c .before .before .before .before .before .before .before .before .before .before .before .before .args .regs .now)) ∙ ap (λ b. spanFrom (c .before .before .before .before .before .before .before .before .before .before .before .before .args .n .address) (cond b 1 0)) (some-words (inMemory (modeOf (c .before .before .before .before .before .before .before .before .before .before .before .before .args .n .form))) 0 _ (way-stored (c .before .before .before .before .before .before .before .before .before .before .before .before .args .n) (omega (arith, (c .before .before .before .before .before .before .before .before .before .before .before .before .pre .2))) _ (c .before .before .before .before .before .before .before .write-count .ensures .0) 1 (way-store (c .before .before .before .before .before .before .before .before .before .before .before .before .args .n) 3 (c .before .before .before .before .before .before .before .before .before .before .before .before .pre .2) (omega arith) 1 refl)) (c .before .before .before .before .before .before .if1 .taken))) _ (c .before .before .before .before .look-up .ensures) _ _ _ _ (c .before .before .place2 .given .1) (c .refused .ensures .0) (c .refused .ensures .1) (ap (λ k. joined k (c .before .before .before .before .before .before .before .before .before .before .before .before .args .regs .now)) (c .refused .ensures .2))
 
 returns-3 : tie.Need-returns-3
 unfolding contextOf effect stored withRegisters
-returns-3 c = idle-done (joined (c .before .before .before .before .before .before .before .args .core) (c .before .before .before .before .before .before .before .args .regs .now)) (c .before .before .before .before .before .before .before .args .memory .now) (c .before .before .before .before .before .before .before .args .pages .now) (c .before .before .before .before .before .before .before .args .n) (way-user (c .before .before .before .before .before .before .before .args .n) 3 (c .before .before .before .before .before .before .before .pre .4) (omega arith)) (way-reads (c .before .before .before .before .before .before .before .args .n) 3 0 1 (c .before .before .before .before .before .before .before .pre .4) (omega arith) refl refl refl refl refl (c .before .before .before .before .before .before .before .args .regs .now)) false ((way-writes (c .before .before .before .before .before .before .before .args .n) 3 0 1 (c .before .before .before .before .before .before .before .pre .4) (omega arith) refl refl refl refl refl (c .before .before .before .before .before .before .before .args .regs .now)) ∙ ap (λ b. spanFrom (c .before .before .before .before .before .before .before .args .n .address) (cond b 1 0)) (no-words (inMemory (modeOf (c .before .before .before .before .before .before .before .args .n .form))) 0 _ (way-stored (c .before .before .before .before .before .before .before .args .n) (omega (arith, (c .before .before .before .before .before .before .before .pre .4))) _ (c .before .before .write-count .ensures .0) 1 (way-store (c .before .before .before .before .before .before .before .args .n) 3 (c .before .before .before .before .before .before .before .pre .4) (omega arith) 1 refl)) (c .before .if1 .left))) (stored (contextOf (joined (c .before .before .before .before .before .before .before .args .core) (c .before .before .before .before .before .before .before .args .regs .now))) (c .before .before .before .before .before .before .before .args .n) (wordStored (c .before .before .before .before .before .before .before .args .regs .now) (c .before .before .before .before .before .before .before .args .n)) 0 0) _ _ _ (does-store (c .before .before .before .before .before .before .before .args .n) (c .before .before .before .before .before .before .before .pre .4) _ _) (c .done2 .ensures .0) (c .done2 .ensures .1 (c .before .before .before .before .before .before .before .args .regs .now) (stored (contextOf (joined (c .before .before .before .before .before .before .before .args .core) (c .before .before .before .before .before .before .before .args .regs .now))) (c .before .before .before .before .before .before .before .args .n) (wordStored (c .before .before .before .before .before .before .before .args .regs .now) (c .before .before .before .before .before .before .before .args .n)) 0 0) (sym (c .before .before .before .before .following .ensures)) (sym (c .before .before .before .cs-of .ensures)) refl)
+returns-3 c = idle-done (joined (c .before .before .before .before .before .before .before .args .core) (c .before .before .before .before .before .before .before .args .regs .now)) (c .before .before .before .before .before .before .before .args .memory .now) (c .before .before .before .before .before .before .before .args .pages .now) (c .before .before .before .before .before .before .before .args .n) (way-user (c .before .before .before .before .before .before .before .args .n) 3 (c .before .before .before .before .before .before .before .pre .2) (omega arith)) (way-reads (c .before .before .before .before .before .before .before .args .n) 3 0 1 (c .before .before .before .before .before .before .before .pre .2) (omega arith) refl refl refl refl refl (c .before .before .before .before .before .before .before .args .regs .now)) false ((way-writes (c .before .before .before .before .before .before .before .args .n) 3 0 1 (c .before .before .before .before .before .before .before .pre .2) (omega arith) refl refl refl refl refl (c .before .before .before .before .before .before .before .args .regs .now)) ∙ ap (λ b. spanFrom (c .before .before .before .before .before .before .before .args .n .address) (cond b 1 0)) (no-words (inMemory (modeOf (c .before .before .before .before .before .before .before .args .n .form))) 0 _ (way-stored (c .before .before .before .before .before .before .before .args .n) (omega (arith, (c .before .before .before .before .before .before .before .pre .2))) _ (c .before .before .write-count .ensures .0) 1 (way-store (c .before .before .before .before .before .before .before .args .n) 3 (c .before .before .before .before .before .before .before .pre .2) (omega arith) 1 refl)) (c .before .if1 .left))) (stored (contextOf (joined (c .before .before .before .before .before .before .before .args .core) (c .before .before .before .before .before .before .before .args .regs .now))) (c .before .before .before .before .before .before .before .args .n) (wordStored (c .before .before .before .before .before .before .before .args .regs .now) (c .before .before .before .before .before .before .before .args .n)) 0 0) _ _ _ (does-store (c .before .before .before .before .before .before .before .args .n) (c .before .before .before .before .before .before .before .pre .2) _ _) (c .done2 .ensures .0) (c .done2 .ensures .1 (c .before .before .before .before .before .before .before .args .regs .now) (stored (contextOf (joined (c .before .before .before .before .before .before .before .args .core) (c .before .before .before .before .before .before .before .args .regs .now))) (c .before .before .before .before .before .before .before .args .n) (wordStored (c .before .before .before .before .before .before .before .args .regs .now) (c .before .before .before .before .before .before .before .args .n)) 0 0) (sym (c .before .before .before .before .following .ensures)) (sym (c .before .before .before .cs-of .ensures)) refl)
 
 pub store-one-spec : {M : Type 1} → statement M
 store-one-spec =
     tie.close
-    (tie.spec (λ c κs. search needs) (λ c κs. search needs) write-count-requires (λ c κs. search needs) (λ c κs. search needs) (λ c. search needs)
-    mul-memory slice-write-memory (λ c κs. search needs) (λ c. search needs) returns (λ c. search needs) (λ c κs. search needs) returns-2
-    (λ c κs. search needs) returns-3)
+    (tie.spec (λ c κs. search needs) (λ c κs. search needs) write-count-requires (λ c κs. search needs) look-up-requires (λ c. search needs) mul-memory
+    slice-write-memory (λ c κs. search needs) (λ c. search needs) returns (λ c. search needs) (λ c κs. search needs) returns-2 (λ c κs. search needs)
+    returns-3)

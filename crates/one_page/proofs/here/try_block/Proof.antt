@@ -5,19 +5,19 @@ use borrow.Author.Needs.{needs}
 use mathlib.Core.Path.{refl}
 
 try-load-requires : tie.Need-try-load-requires
-try-load-requires c κs = (c .before .before .before .before .before .before .pre .0, c .before .before .before .before .before .before .pre .1, c .before .before .before .before .before .before .pre .2, c .before .before .before .before .before .before .pre .3, c .before .before .match .keys1)
+try-load-requires c κs = (c .before .before .before .before .before .before .pre .0, c .before .before .before .before .before .before .pre .1, c .before .before .match .keys1)
 
 try-pop-requires : tie.Need-try-pop-requires
-try-pop-requires c κs = (c .before .before .before .before .before .before .pre .0, c .before .before .before .before .before .before .pre .1, c .before .before .before .before .before .before .pre .2, c .before .before .before .before .before .before .pre .3, c .before .before .match .keys2)
+try-pop-requires c κs = (c .before .before .before .before .before .before .pre .0, c .before .before .before .before .before .before .pre .1, c .before .before .match .keys2)
 
 try-move-requires : tie.Need-try-move-requires
-try-move-requires c κs = (c .before .before .before .before .before .before .pre .0, c .before .before .before .before .before .before .pre .1, c .before .before .before .before .before .before .pre .2, c .before .before .before .before .before .before .pre .3, c .before .before .match .keys3)
+try-move-requires c κs = (c .before .before .before .before .before .before .pre .0, c .before .before .before .before .before .before .pre .1, c .before .before .match .keys3)
 
 try-store-requires : tie.Need-try-store-requires
-try-store-requires c κs = (c .before .before .before .before .before .before .pre .0, c .before .before .before .before .before .before .pre .1, c .before .before .before .before .before .before .pre .2, c .before .before .before .before .before .before .pre .3, c .before .before .match .keys4)
+try-store-requires c κs = (c .before .before .before .before .before .before .pre .0, c .before .before .before .before .before .before .pre .1, c .before .before .match .keys4)
 
 try-push-requires : tie.Need-try-push-requires
-try-push-requires c κs = (c .before .before .before .before .before .before .pre .0, c .before .before .before .before .before .before .pre .1, c .before .before .before .before .before .before .pre .2, c .before .before .before .before .before .before .pre .3, c .before .before .match .keys5)
+try-push-requires c κs = (c .before .before .before .before .before .before .pre .0, c .before .before .before .before .before .before .pre .1, c .before .before .match .keys5)
 
 returns : tie.Need-returns
 returns c = c .before .before .try-load .ensures

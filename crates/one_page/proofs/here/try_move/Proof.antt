@@ -1,4 +1,4 @@
--- Written by tools/prove.py from answers/one_page.py: answer 2f6413476213, proof 6d78db15c63c.
+-- Written by tools/prove.py from answers/one_page.py: answer de6c44757e2c, proof 276fae387bd7.
 -- `one_page::here::try_move` meets its contract. Assumes nothing.
 use Rattle.machine.specs.State.{joined}
 use Rattle.one_page.proofs.HereLaws.{moved-here}
@@ -10,16 +10,16 @@ use borrow.Author.Tests.{ne-eqb}
 use mathlib.Core.Path.{sym, _∙_}
 
 look-up-requires : tie.Need-look-up-requires
-look-up-requires c κs = (c .before .before .before .before .before .before .before .before .before .pre .0, c .before .before .before .before .before .before .before .before .before .pre .3)
+look-up-requires c κs = (c .before .before .before .before .before .before .before .before .before .pre .0, (c .before .before .before .before .before .before .before .before .before .pre .1 .group-small))
 
 look-up-requires-2 : tie.Need-look-up-requires-2
-look-up-requires-2 c κs = (c .before .before .before .before .before .before .before .before .before .before .before .before .before .before .before .pre .0, c .before .before .before .before .before .before .before .before .before .before .before .before .before .before .before .pre .3)
+look-up-requires-2 c κs = (c .before .before .before .before .before .before .before .before .before .before .before .before .before .before .before .pre .0, (c .before .before .before .before .before .before .before .before .before .before .before .before .before .before .before .pre .1 .group-small))
 
 copy-requires : tie.Need-copy-requires
 copy-requires c κs = (located-inside _ _ _ _ _ _ _ _ (c .before .before .before .before .before .before .before .before .before .before .look-up .ensures) (c .before .before .before .before .before .before .before .before .from .given .1), located-inside _ _ _ _ _ _ _ _ (c .before .before .before .before .look-up2 .ensures) (c .before .before .to .given .1))
 
 returns-4 : tie.Need-returns-4
-returns-4 c = moved-here (joined (c .before .before .before .before .before .before .before .before .before .before .before .before .before .before .before .before .before .before .before .before .before .before .before .before .before .args .core) (c .before .before .before .before .before .before .before .before .before .before .before .before .before .before .before .before .before .before .before .before .before .before .before .before .before .args .regs .now)) (c .before .before .before .before .before .before .before .before .before .before .before .before .before .before .before .before .before .before .before .before .before .before .before .before .before .args .memory .now) (c .before .before .before .before .before .before .before .before .before .before .before .before .before .before .before .before .before .before .before .before .before .before .before .before .before .args .pages .now) (c .before .before .before .before .before .before .before .before .before .before .before .before .before .before .before .before .before .before .before .before .before .before .before .before .before .args .n) (c .before .before .before .before .before .before .before .before .before .before .before .before .before .before .before .before .before .before .before .before .before .before .before .before .before .pre .4) (rw (← c .before .before .before .before .before .before .before .before .before .before .before .before .before .before .before .before .before .before .before .before .before .before .field-a .ensures .0, ← c .before .before .before .before .before .before .before .before .before .before .before .before .before .before .before .before .before .before .before .before .get .ensures) (ne-eqb _ _ (c .before .before .before .before .before .before .before .before .before .before .before .before .before .before .before .before .before .before .before .if1 .left))) _ _ (rw (← c .before .before .before .before .before .before .before .before .before .before .before .before .before .before .before .before .before .before .before .before .before .before .before .before .before .pre .1, ← c .before .before .before .before .before .before .before .before .before .before .before .before .before .before .before .before .before .before .before .before .before .before .before .before .before .pre .2, ← c .before .before .before .before .before .before .before .before .before .before .before .before .before .before .before .before .before .field-b .ensures .0, ← c .before .before .before .before .before .before .before .before .before .before .before .before .before .before .before .before .get2 .ensures) (sym (c .before .before .before .before .before .before .before .before .before .before .before .before .before .before .before .look-up .ensures) ∙ c .before .before .before .before .before .before .before .before .before .before .before .before .before .from .given .1)) (rw (← c .before .before .before .before .before .before .before .before .before .before .before .before .before .before .before .before .before .before .before .before .before .before .before .before .before .pre .1, ← c .before .before .before .before .before .before .before .before .before .before .before .before .before .before .before .before .before .before .before .before .before .before .before .before .before .pre .2, ← c .before .before .before .before .before .before .before .before .before .before .before .before .before .before .before .before .before .before .before .before .before .before .field-a .ensures .0, ← c .before .before .before .before .before .before .before .before .before .before .get3 .ensures) (sym (c .before .before .before .before .before .before .before .before .before .look-up2 .ensures) ∙ c .before .before .before .before .before .before .before .to .given .1)) _ _ (c .move-word .ensures _) (c .before .before .before .before .copy .ensures)
+returns-4 c = moved-here (joined (c .before .before .before .before .before .before .before .before .before .before .before .before .before .before .before .before .before .before .before .before .before .before .before .before .before .args .core) (c .before .before .before .before .before .before .before .before .before .before .before .before .before .before .before .before .before .before .before .before .before .before .before .before .before .args .regs .now)) (c .before .before .before .before .before .before .before .before .before .before .before .before .before .before .before .before .before .before .before .before .before .before .before .before .before .args .memory .now) (c .before .before .before .before .before .before .before .before .before .before .before .before .before .before .before .before .before .before .before .before .before .before .before .before .before .args .pages .now) (c .before .before .before .before .before .before .before .before .before .before .before .before .before .before .before .before .before .before .before .before .before .before .before .before .before .args .n) (c .before .before .before .before .before .before .before .before .before .before .before .before .before .before .before .before .before .before .before .before .before .before .before .before .before .pre .2) (rw (← c .before .before .before .before .before .before .before .before .before .before .before .before .before .before .before .before .before .before .before .before .before .before .field-a .ensures .0, ← c .before .before .before .before .before .before .before .before .before .before .before .before .before .before .before .before .before .before .before .before .get .ensures) (ne-eqb _ _ (c .before .before .before .before .before .before .before .before .before .before .before .before .before .before .before .before .before .before .before .if1 .left))) _ _ (rw (← (c .before .before .before .before .before .before .before .before .before .before .before .before .before .before .before .before .before .before .before .before .before .before .before .before .before .pre .1 .key-is), ← (c .before .before .before .before .before .before .before .before .before .before .before .before .before .before .before .before .before .before .before .before .before .before .before .before .before .pre .1 .group-is), ← c .before .before .before .before .before .before .before .before .before .before .before .before .before .before .before .before .before .field-b .ensures .0, ← c .before .before .before .before .before .before .before .before .before .before .before .before .before .before .before .before .get2 .ensures) (sym (c .before .before .before .before .before .before .before .before .before .before .before .before .before .before .before .look-up .ensures) ∙ c .before .before .before .before .before .before .before .before .before .before .before .before .before .from .given .1)) (rw (← (c .before .before .before .before .before .before .before .before .before .before .before .before .before .before .before .before .before .before .before .before .before .before .before .before .before .pre .1 .key-is), ← (c .before .before .before .before .before .before .before .before .before .before .before .before .before .before .before .before .before .before .before .before .before .before .before .before .before .pre .1 .group-is), ← c .before .before .before .before .before .before .before .before .before .before .before .before .before .before .before .before .before .before .before .before .before .before .field-a .ensures .0, ← c .before .before .before .before .before .before .before .before .before .before .get3 .ensures) (sym (c .before .before .before .before .before .before .before .before .before .look-up2 .ensures) ∙ c .before .before .before .before .before .before .before .to .given .1)) _ _ (c .move-word .ensures _) (c .before .before .before .before .copy .ensures)
 
 pub try-move-spec : {M : Type 1} → statement M
 try-move-spec =

@@ -1,4 +1,4 @@
--- Written by tools/prove.py from answers/one_page.py: answer c6897c226015, proof 6e4a50e8aa72.
+-- Written by tools/prove.py from answers/one_page.py: answer 9b1e8e16fe68, proof 540d43b65635.
 -- `one_page::here::try_pop` meets its contract. Assumes nothing.
 use Rattle.machine.specs.State.{joined}
 use Rattle.one_page.proofs.HereLaws.{row-found, popped-here}
@@ -11,13 +11,13 @@ registers-from-requires : tie.Need-registers-from-requires
 registers-from-requires c κs = (c .before .field-a .ensures .1, c .field-b .ensures .1)
 
 find-row-requires : tie.Need-find-row-requires
-find-row-requires c κs = (c .before .before .before .before .before .before .before .pre .0, c .before .before .before .before .before .before .before .pre .3, c .before .before .registers-from .ensures .1)
+find-row-requires c κs = (c .before .before .before .before .before .before .before .pre .0, (c .before .before .before .before .before .before .before .pre .1 .group-small), c .before .before .registers-from .ensures .1)
 
 pop-multiple-requires : tie.Need-pop-multiple-requires
 pop-multiple-requires c κs = rw (← c .before .before .before .before .before .before .before .before .before .before .field-a .ensures .0, ← c .before .before .before .before .before .before .before .before .before .field-b .ensures .0, ← c .before .before .before .before .before .before .before .before .registers-from .ensures .0) (row-found _ _ _ _ _ _ _ _ _ (c .before .before .before .before .before .find-row .ensures) (c .before .before .before .row .given .1) .2)
 
 returns-2 : tie.Need-returns-2
-returns-2 c = popped-here (joined (c .before .before .before .before .before .before .before .before .before .before .before .before .before .before .args .core) (c .before .before .before .before .before .before .before .before .before .before .before .before .before .before .args .regs .now)) (c .before .before .before .before .before .before .before .before .before .before .before .before .before .before .args .memory .now) (c .before .before .before .before .before .before .before .before .before .before .before .before .before .before .args .pages .now) (c .before .before .before .before .before .before .before .before .before .before .before .before .before .before .args .n) (c .before .before .before .before .before .before .before .before .before .before .before .before .before .before .pre .4) (c .before .before .before .before .row .given .0 .0) (rw (← c .before .before .before .before .before .before .before .before .before .before .before .before .before .before .pre .1, ← c .before .before .before .before .before .before .before .before .before .before .before .before .before .before .pre .2, ← c .before .before .before .before .before .before .before .before .before .before .before .field-a .ensures .0, ← c .before .before .before .before .before .before .before .before .before .before .field-b .ensures .0, ← c .before .before .before .before .before .before .before .before .before .registers-from .ensures .0, ← c .before .before .before .before .before .before .before .get .ensures) (row-found _ _ _ _ _ _ _ _ _ (c .before .before .before .before .before .before .find-row .ensures) (c .before .before .before .before .row .given .1))) _ _ (c .pop-multiple .ensures) refl
+returns-2 c = popped-here (joined (c .before .before .before .before .before .before .before .before .before .before .before .before .before .before .args .core) (c .before .before .before .before .before .before .before .before .before .before .before .before .before .before .args .regs .now)) (c .before .before .before .before .before .before .before .before .before .before .before .before .before .before .args .memory .now) (c .before .before .before .before .before .before .before .before .before .before .before .before .before .before .args .pages .now) (c .before .before .before .before .before .before .before .before .before .before .before .before .before .before .args .n) (c .before .before .before .before .before .before .before .before .before .before .before .before .before .before .pre .2) (c .before .before .before .before .row .given .0 .0) (rw (← (c .before .before .before .before .before .before .before .before .before .before .before .before .before .before .pre .1 .key-is), ← (c .before .before .before .before .before .before .before .before .before .before .before .before .before .before .pre .1 .group-is), ← c .before .before .before .before .before .before .before .before .before .before .before .field-a .ensures .0, ← c .before .before .before .before .before .before .before .before .before .before .field-b .ensures .0, ← c .before .before .before .before .before .before .before .before .before .registers-from .ensures .0, ← c .before .before .before .before .before .before .before .get .ensures) (row-found _ _ _ _ _ _ _ _ _ (c .before .before .before .before .before .before .find-row .ensures) (c .before .before .before .before .row .given .1))) _ _ (c .pop-multiple .ensures) refl
 
 pub try-pop-spec : {M : Type 1} → statement M
 try-pop-spec =

@@ -1,4 +1,4 @@
--- Written by tools/prove.py from answers/one_page.py: answer 8341ba3a94b4, proof 29f92e733985.
+-- Written by tools/prove.py from answers/one_page.py: answer 9d905d1bf04c, proof 48b79aedb21c.
 -- `one_page::here::try_push` meets its contract. Assumes nothing.
 use Rattle.machine.specs.State.{joined}
 use Rattle.one_page.proofs.HereLaws.{pushed-here}
@@ -14,13 +14,13 @@ registers-from-requires : tie.Need-registers-from-requires
 registers-from-requires c κs = (c .field-a .ensures .1, c .before .field-b .ensures .1)
 
 look-up-requires : tie.Need-look-up-requires
-look-up-requires c κs = (c .before .before .before .before .before .before .before .before .before .pre .0, c .before .before .before .before .before .before .before .before .before .pre .3)
+look-up-requires c κs = (c .before .before .before .before .before .before .before .before .before .pre .0, (c .before .before .before .before .before .before .before .before .before .pre .1 .group-small))
 
 push-row-requires : tie.Need-push-row-requires
 push-row-requires c κs = (c .before .before .before .before .before .before .before .before .before .before .before .before .field-b .ensures .1, c .before .before .before .before .before .before .before .before .before .before .registers-from .ensures .1, omega (arith, found-offset _ _ _ _ _ _ _ (sym (c .before .before .before .before .before .look-up .ensures) ∙ c .before .before .before .place .given .1)), located-inside _ _ _ _ _ _ _ _ (c .before .before .before .before .before .look-up .ensures) (c .before .before .before .place .given .1))
 
 returns-3 : tie.Need-returns-3
-returns-3 c = pushed-here (joined (c .before .before .before .before .before .before .before .before .before .before .before .before .before .before .before .before .before .before .before .before .args .core) (c .before .before .before .before .before .before .before .before .before .before .before .before .before .before .before .before .before .before .before .before .args .regs .now)) (c .before .before .before .before .before .before .before .before .before .before .before .before .before .before .before .before .before .before .before .before .args .memory .now) (c .before .before .before .before .before .before .before .before .before .before .before .before .before .before .before .before .before .before .before .before .args .pages .now) (c .before .before .before .before .before .before .before .before .before .before .before .before .before .before .before .before .before .before .before .before .args .n) (c .before .before .before .before .before .before .before .before .before .before .before .before .before .before .before .before .before .before .before .before .pre .4) (c .before .before .before .before .before .before .before .before .place .given .0 .0) (rw (← c .before .before .before .before .before .before .before .before .before .before .before .before .before .before .before .before .before .before .before .before .pre .1, ← c .before .before .before .before .before .before .before .before .before .before .before .before .before .before .before .before .before .before .before .before .pre .2, ← c .before .before .before .before .before .before .before .before .before .before .before .before .before .get .ensures, ← c .before .before .before .before .before .before .before .before .before .before .before .before .less .ensures) (sym (c .before .before .before .before .before .before .before .before .before .before .look-up .ensures) ∙ c .before .before .before .before .before .before .before .before .place .given .1)) (rw (← c .before .before .before .before .before .before .before .before .before .before .before .before .before .before .before .before .field-a .ensures .0, ← c .before .before .before .before .before .before .before .before .before .before .before .before .before .before .before .before .before .field-b .ensures .0, ← c .before .before .before .before .before .before .before .before .before .before .before .before .before .before .before .registers-from .ensures .0, ← c .before .before .before .before .before .before .before .before .before .before .before .before .before .get .ensures, ← c .before .before .before .before .before .before .before .before .before .before .before .before .less .ensures) (omega (arith, c .before .before .before .before .before .before .before .before .before .before .before .if1 .left))) _ _ (c .push-multiple .ensures) (rw (← c .before .before .before .before .before .before .before .before .before .before .before .before .before .before .before .before .field-a .ensures .0, ← c .before .before .before .before .before .before .before .before .before .before .before .before .before .before .before .before .before .field-b .ensures .0, ← c .before .before .before .before .before .before .before .before .before .before .before .before .before .before .before .registers-from .ensures .0) (c .before .before .before .before .push-row .ensures))
+returns-3 c = pushed-here (joined (c .before .before .before .before .before .before .before .before .before .before .before .before .before .before .before .before .before .before .before .before .args .core) (c .before .before .before .before .before .before .before .before .before .before .before .before .before .before .before .before .before .before .before .before .args .regs .now)) (c .before .before .before .before .before .before .before .before .before .before .before .before .before .before .before .before .before .before .before .before .args .memory .now) (c .before .before .before .before .before .before .before .before .before .before .before .before .before .before .before .before .before .before .before .before .args .pages .now) (c .before .before .before .before .before .before .before .before .before .before .before .before .before .before .before .before .before .before .before .before .args .n) (c .before .before .before .before .before .before .before .before .before .before .before .before .before .before .before .before .before .before .before .before .pre .2) (c .before .before .before .before .before .before .before .before .place .given .0 .0) (rw (← (c .before .before .before .before .before .before .before .before .before .before .before .before .before .before .before .before .before .before .before .before .pre .1 .key-is), ← (c .before .before .before .before .before .before .before .before .before .before .before .before .before .before .before .before .before .before .before .before .pre .1 .group-is), ← c .before .before .before .before .before .before .before .before .before .before .before .before .before .get .ensures, ← c .before .before .before .before .before .before .before .before .before .before .before .before .less .ensures) (sym (c .before .before .before .before .before .before .before .before .before .before .look-up .ensures) ∙ c .before .before .before .before .before .before .before .before .place .given .1)) (rw (← c .before .before .before .before .before .before .before .before .before .before .before .before .before .before .before .before .field-a .ensures .0, ← c .before .before .before .before .before .before .before .before .before .before .before .before .before .before .before .before .before .field-b .ensures .0, ← c .before .before .before .before .before .before .before .before .before .before .before .before .before .before .before .registers-from .ensures .0, ← c .before .before .before .before .before .before .before .before .before .before .before .before .before .get .ensures, ← c .before .before .before .before .before .before .before .before .before .before .before .before .less .ensures) (omega (arith, c .before .before .before .before .before .before .before .before .before .before .before .if1 .left))) _ _ (c .push-multiple .ensures) (rw (← c .before .before .before .before .before .before .before .before .before .before .before .before .before .before .before .before .field-a .ensures .0, ← c .before .before .before .before .before .before .before .before .before .before .before .before .before .before .before .before .before .field-b .ensures .0, ← c .before .before .before .before .before .before .before .before .before .before .before .before .before .before .before .registers-from .ensures .0) (c .before .before .before .before .push-row .ensures))
 
 pub try-push-spec : {M : Type 1} → statement M
 try-push-spec =

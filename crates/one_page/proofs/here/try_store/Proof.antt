@@ -1,4 +1,4 @@
--- Written by tools/prove.py from answers/one_page.py: answer 01e244febfff, proof a4da904e7646.
+-- Written by tools/prove.py from answers/one_page.py: answer 2e5f22f9fcd5, proof 79dba2611350.
 -- `one_page::here::try_store` meets its contract. Assumes nothing.
 use Rattle.isa.specs.Blocks.{storedAll}
 use Rattle.isa.specs.Mil1750.{contextOf}
@@ -10,7 +10,7 @@ use borrow.Author.Needs.{needs}
 use native.Mathlib.Omega.{arith}
 
 find-row-requires : tie.Need-find-row-requires
-find-row-requires c κs = (c .before .before .before .pre .0, c .before .before .before .pre .3, omega (arith, c .field-a .ensures .1))
+find-row-requires c κs = (c .before .before .before .pre .0, (c .before .before .before .pre .1 .group-small), omega (arith, c .field-a .ensures .1))
 
 returns : tie.Need-returns
 unfolding storedAll contextOf
@@ -21,7 +21,7 @@ store-row-requires c κs = (omega (arith, c .before .before .before .before .bef
 
 returns-2 : tie.Need-returns-2
 unfolding storedAll contextOf
-returns-2 c = stored-here (joined (c .before .before .before .before .before .before .before .before .before .before .before .before .before .args .core) (c .before .before .before .before .before .before .before .before .before .before .before .before .before .args .regs .now)) (c .before .before .before .before .before .before .before .before .before .before .before .before .before .args .memory .now) (c .before .before .before .before .before .before .before .before .before .before .before .before .before .args .pages .now) (c .before .before .before .before .before .before .before .before .before .before .before .before .before .args .n) (c .before .before .before .before .before .before .before .before .before .before .before .before .before .pre .4) (c .before .before .before .before .before .before .before .row .given .0 .0) (rw (← c .before .before .before .before .before .before .before .before .before .before .before .before .before .pre .1, ← c .before .before .before .before .before .before .before .before .before .before .before .before .before .pre .2, ← c .before .before .before .before .before .before .before .before .before .before .field-a .ensures .0) (row-found _ _ _ _ _ _ _ _ _ (c .before .before .before .before .before .before .before .before .before .find-row .ensures) (c .before .before .before .before .before .before .before .row .given .1))) _ _ (c .proceed .ensures _ _ _) (rw (← c .before .before .before .before .before .before .before .before .before .before .field-a .ensures .0) (c .before .before .before .store-row .ensures))
+returns-2 c = stored-here (joined (c .before .before .before .before .before .before .before .before .before .before .before .before .before .args .core) (c .before .before .before .before .before .before .before .before .before .before .before .before .before .args .regs .now)) (c .before .before .before .before .before .before .before .before .before .before .before .before .before .args .memory .now) (c .before .before .before .before .before .before .before .before .before .before .before .before .before .args .pages .now) (c .before .before .before .before .before .before .before .before .before .before .before .before .before .args .n) (c .before .before .before .before .before .before .before .before .before .before .before .before .before .pre .2) (c .before .before .before .before .before .before .before .row .given .0 .0) (rw (← (c .before .before .before .before .before .before .before .before .before .before .before .before .before .pre .1 .key-is), ← (c .before .before .before .before .before .before .before .before .before .before .before .before .before .pre .1 .group-is), ← c .before .before .before .before .before .before .before .before .before .before .field-a .ensures .0) (row-found _ _ _ _ _ _ _ _ _ (c .before .before .before .before .before .before .before .before .before .find-row .ensures) (c .before .before .before .before .before .before .before .row .given .1))) _ _ (c .proceed .ensures _ _ _) (rw (← c .before .before .before .before .before .before .before .before .before .before .field-a .ensures .0) (c .before .before .before .store-row .ensures))
 
 pub try-store-spec : {M : Type 1} → statement M
 try-store-spec =
