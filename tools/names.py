@@ -1,5 +1,5 @@
 #!/usr/bin/env python3
-"""Checks that what README.md and docs/ name is there: each `crate: name, ..`, `crate/File: name, ..` and `crate::module::name` in backquotes.
+"""Checks that what README.md and docs/ name is there: each `crate: name, ..`, `crate/File: name, ..`, `crate::module::name` and path in backquotes.
 
 Run it in the repository's root. It prints each name that is not there, and ends with status 1 if there is one.
 """
@@ -10,6 +10,9 @@ import sys
 
 # the words of the pages' own patterns, and what is no Rattle crate
 OTHERS = ('crate', 'simulator', 'libc')
+# the folders at which a path starts, and what stands for a name in one
+FOLDERS = ('answers', 'comparison', 'crates', 'docs', 'examples', 'interface', 'simulator', 'tools')
+STAND_INS = ('CRATE', 'LABEL')
 
 
 def text(crate, *parts):
@@ -34,7 +37,12 @@ def missing_function(crate, path):
     return [] if os.path.exists(module) and has(crate, path[-1], 'src') else path[-1:]
 
 
-def missing(quoted):
+def missing_paths(quoted):
+    paths = re.findall(r'(?<!\S)(?:%s)/[\w./-]*' % '|'.join(FOLDERS), quoted)
+    return [path for path in paths if not any(word in path for word in STAND_INS) and not os.path.exists(path)]
+
+
+def missing_names(quoted):
     found = re.fullmatch(r'(\w+)(?:/(?:specs/|proofs/)?(\w+))?: ([\w, -]+)', quoted)
     crates = [found.group(1)] if found else [part[0] for part in re.findall(r'(\w+)((?:::\w+)+)', quoted)]
     crates = [crate for crate in crates if crate not in OTHERS]
@@ -44,6 +52,10 @@ def missing(quoted):
     if found:
         return missing_definitions(crates[0], found.group(2), [name.strip() for name in found.group(3).split(',')])
     return [name for crate, path in re.findall(r'(\w+)((?:::\w+)+)', quoted) if crate in crates for name in missing_function(crate, path.split('::')[1:])]
+
+
+def missing(quoted):
+    return missing_names(quoted) + missing_paths(quoted)
 
 
 def main():

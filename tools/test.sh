@@ -48,6 +48,9 @@ part 'mistakes that the comparison has to find'
 part 'the comparison of both simulators'
 (cd comparison && cargo run --release --quiet --offline)
 
+part 'the commands of docs/USING.md'
+python3 tools/using.py
+
 part 'the names in the documents'
 python3 tools/names.py
 
@@ -56,6 +59,9 @@ python3 tools/deps.py
 
 part 'the contracts and their wrong answers'
 python3 tools/contracts.py
+
+part 'what has to be believed'
+python3 tools/trust.py --check
 
 part 'the modules that open definitions'
 python3 tools/open.py --check
