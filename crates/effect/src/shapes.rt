@@ -1,4 +1,4 @@
-// The shapes of what an operation does, from IC, SW and PI before it. Whatever the registers hold, each is the shape of the definitions;
+// The shapes of what an operation does, from the instruction and SW and PI before it. Whatever the registers hold, each is the shape of the definitions;
 // one that does not need SW is so for every SW.
 ghost use mathlib.Core.Path.{_≡_};
 ghost use mathlib.Core.List.{List, [], _∷_};

@@ -18,7 +18,7 @@ use std::num::wrapping_add_u16;
 use storage::read::read_word;
 use storage::write::write_word;
 
-// The words read, 0 past their number, where all accesses are open; else the FT bit of the first refusal. The order is the fastest that was measured
+// The words read, 0 past their number, where all accesses are open; else the FT bit of the first refusal. The order was chosen by measurement
 // (docs/BENCHMARK.md, "Sizes").
 pub struct Gathered {
     pub x: u16,
