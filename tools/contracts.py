@@ -8,7 +8,8 @@ Run it in the repository's root. It prints what is wrong, and ends with status 1
 - a `pub fn` that no other crate calls, unless docs/CONTRACTS.md has it among the users' contracts;
 - a must-fail edit whose old text does not stand exactly once in its file, or whose first line is not `CONTRACT: wrong answer.`, the contract being a function of its crate (`crate::module::function`) or,
   where the edit changes specs/, a definition (`crate/File: name`);
-- a users' contract without two edits in the table of docs/CONTRACTS.md, an edit there that does not exist or tries another contract;
+- a users' contract with a `requires`, without two wrong answers in its table of docs/CONTRACTS.md, or without two edits there unless it is `r ≡ definition`; an edit there that does not exist or
+  tries another contract, a `row` there whose wrong answer no row of the contract names; the same, but for the `requires`, in the table of what the C calls are made of;
 - another public contract with neither a row in its crate's proofs/Wrong.antt, which names two wrong answers, nor two edits.
 """
 import glob
@@ -90,55 +91,71 @@ def wrong_edit(label, line, folders, known):
 
 
 def rows(crate):
-    """The functions with a row of wrong answers, and what is wrong with the file."""
+    """The functions with rows, each with the wrong answers that these name, and what is wrong with the file."""
     path = f'crates/{crate}/proofs/Wrong.antt'
     if not os.path.exists(path):
-        return set(), []
+        return {}, []
     text = read(path).split('\nrows =\n')[-1]
-    named, faults = set(), []
+    named, faults = {}, []
     for comment, row in re.findall(r'^ *-- (.*)\n *(?:∷ )?(\S+)', text, flags=re.M):
-        found = re.match(r'(\w+(?:::\w+)*): [^;]+; .+$', comment)
+        found = re.match(r'(\w+(?:::\w+)*): ([^;]+; .+)$', comment)
         if found and row in ('one', 'some'):
-            named.add(f'{crate}::{found.group(1)}')
+            named.setdefault(f'{crate}::{found.group(1)}', []).extend(found.group(2).split('; '))
         else:
             faults.append(f'{path}: `{comment}` is not `function: wrong answer; wrong answer` above a row')
     return named, faults
 
 
-def listed():
-    """The users' contracts with their edits, from the table of the page."""
+def listed(part='What users call'):
+    """The contracts from the table of a part of the page, each with its wrong answers and what tries them: an edit, or `row`."""
     table = {}
-    for contract, edit in re.findall(r'^\| `([\w:]+)` \| .* \| `?([\w/]+)`? \|$', read(PAGE), flags=re.M):
-        table.setdefault(contract, []).append(edit)
+    for contract, answer, means in re.findall(r'^\| `([\w:]+)` \| (.*) \| ([\w/]+) \|$', read(PAGE).split(f'\n## {part}\n')[1].split('\n## ')[0], flags=re.M):
+        table.setdefault(contract, []).append((answer, means))
     return table
+
+
+def heads(modules):
+    """The text of each function up to its body, with its contract, by path."""
+    found = [(crate, module, text.split('\n{')[0]) for (crate, module), code in modules.items() for text in re.split(r'\bfn ', code)[1:]]
+    return {path_of(crate, module, re.match(r'\w+', text).group()): text for crate, module, text in found}
+
+
+def faults_of(name, answers, edited, named, head):
+    """What is wrong with the wrong answers of a contract that the page lists: these, its edits, and the wrong answers that its rows name."""
+    by_edits, equation = [means for _, means in answers if means != 'row'], re.search(r'ensures \{ λ (\w+)\. ⌜ \1 ≡ [^×]*⌝ \}\s*$', head)
+    yield from (f'{PAGE}: {edit} is no edit of {name}' for edit in by_edits if edit not in edited)
+    yield from (f'{PAGE}: {name} lacks {edit}' for edit in edited if edit not in by_edits)
+    yield from (f'{PAGE}: no row of {name} names `{answer}`' for answer, means in answers if means == 'row' and answer not in named)
+    if len(answers if equation else by_edits) < 2:
+        yield f'{name}: fewer than two ' + ('wrong answers' if equation else 'edits')
 
 
 def main(words):
     modules = sources()
     public, every, names = functions(modules, 'pub '), set(functions(modules)) | set(functions(modules, r'pub(?:\(crate\))? ')), called(modules)
-    found, users, wrong = edits(), listed(), []
+    found, users, inner, head, wrong = edits(), listed(), listed('What the C calls are made of'), heads(modules), []
     wrong += [fault for path in sorted(glob.glob('crates/*/must-fail/*.edit')) for fault in unfit(path)]
     wrong += [fault for label, (line, folders) in found.items() for fault in [wrong_edit(label, line, folders, every)] if fault]
     by_edit = {}
     for label, (line, _) in found.items():
         by_edit.setdefault(tried(line), []).append(label)
-    by_row = set()
+    by_row = {}
     for crate in sorted({crate for crate, _ in modules}):
         have, faults = rows(crate)
         by_row |= have
-        wrong += faults + [f'{name}: a row in proofs/Wrong.antt, and no public function' for name in sorted(have - set(public))]
+        wrong += faults + [f'{name}: a row in proofs/Wrong.antt, and no public function' for name in sorted(set(have) - set(public))]
     for name in public:
+        if name in users | inner:
+            wrong += faults_of(name, (users | inner)[name], by_edit.get(name, []), by_row.get(name, []), head[name])
         if name in users:
-            wrong += [f'{PAGE}: {edit} is no edit of {name}' for edit in users[name] if edit not in by_edit.get(name, [])]
-            wrong += [f'{PAGE}: {name} lacks {edit}' for edit in by_edit.get(name, []) if edit not in users[name]]
-            wrong += [f'{name}: fewer than two edits'] if len(users[name]) < 2 else []
+            wrong += [f'{name}: called by users, and has a `requires`'] if 'requires {' in head[name] else []
         elif name not in names:
             wrong.append(f'{name}: public, and no other crate calls it')
         elif name not in by_row and len(by_edit.get(name, [])) < 2:
             wrong.append(f'{name}: neither a row nor two edits')
         if '--list' in words:
             print(name, '·', 'row' if name in by_row else '-', '·', ' '.join(by_edit.get(name, [])))
-    wrong += [f'{PAGE}: no public {name}' for name in users if name not in public]
+    wrong += [f'{PAGE}: no public {name}' for name in users | inner if name not in public]
     print('\n'.join(wrong) or f'{len(public)} public contracts, {len(users)} of them called by users, {len(found)} must-fail edits')
     return 1 if wrong else 0
 

@@ -1,2 +1,3 @@
--- The laws of the two calls.
+-- The laws of the two calls; wrong answers.
 pub mod CallLaws
+pub mod Wrong

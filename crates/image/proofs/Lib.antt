@@ -1,4 +1,4 @@
--- The laws of the questions to an image.
+-- The laws of the questions to an image; wrong answers.
 pub mod QuestionLaws
 pub mod SoundLaws
 pub mod ShareLaws

@@ -1,17 +1,29 @@
 -- Two wrong answers of each contract that other crates call, beside the right one, which the checker computes. Assumes nothing.
 use Prim.Native.Nat.{ℕ}
-use mathlib.Core.List.{List, [], _∷_}
+use mathlib.Core.List.{List, [], _∷_, _++_}
 use lib.Dec.{T}
 use Rattle.choice.specs.Table.{tableOf}
 use Rattle.choice.proofs.Rows.{Row, one, some, hold}
-use Rattle.image.specs.Image.{wordAt, longAt, countOf, entryAt}
+use Rattle.machine.specs.Runs.{wholePages}
+use Rattle.image.specs.declared.Loading.{Loading}
+use Rattle.image.specs.declared.Loading.the-variants.{Accepted, BadMemory, BadPages, BadPorts, NoCount, ManyEntries, ShortTable, BadKind, BadRange, SharedWord, BadBodies}
+use Rattle.image.specs.Image.{wordAt, longAt, countOf, entryAt, wordsBefore, tableEnd, bodyAt, numberOf, asked, unlessRefused, targetSize, endOf, share, sharesEarlier, entryAnswer, entriesAnswer, imageAnswer, admission}
+
+-- opens the definitions of the questions at once
+unfoldable questions : Unit {0}
+unfolding wholePages wordAt longAt countOf entryAt wordsBefore tableEnd bodyAt asked unlessRefused targetSize endOf share sharesEarlier entryAnswer entriesAnswer imageAnswer admission
+questions = tt
 
 -- each byte is its number
 abbrev image : List ℕ
 image = tableOf (λ k. k) 0 22
 
+-- the number of the answer to an image of one entry from word 0 on, of a kind and a number of words, with a body of these bytes
+abbrev answered : ℕ → ℕ → List ℕ → ℕ
+answered kind n body = numberOf (admission ((0 ∷ 1 ∷ 0 ∷ kind ∷ 0 ∷ 0 ∷ 0 ∷ 0 ∷ 0 ∷ 0 ∷ 0 ∷ n ∷ []) ++ body) 4096 512 1024)
+
 pub rows : List Row
-unfolding wordAt longAt countOf entryAt
+unfolding questions
 rows =
     -- table::word_at: the least significant byte first; the word before
     one (wordAt image 3) 0x0304 0x0403 0x0203
@@ -20,8 +32,17 @@ rows =
     -- table::entry_at: the entry before; start and length exchanged
     ∷ some (let e = entryAt image 1 in e .kind ∷ e .start ∷ e .words ∷ [])
     (0x0C0D ∷ 0x0E0F1011 ∷ 0x12131415 ∷ []) (0x0203 ∷ 0x04050607 ∷ 0x08090A0B ∷ []) (0x0C0D ∷ 0x12131415 ∷ 0x0E0F1011 ∷ [])
+    -- questions::number: an image of more than 64 entries is answered by 6, as one without the two bytes of their number; words outside the target are 11, and a shared word is 10
+    ∷ some
+    (numberOf Accepted ∷ numberOf BadMemory ∷ numberOf BadPages ∷ numberOf BadPorts ∷ numberOf NoCount ∷ numberOf ManyEntries ∷ numberOf ShortTable ∷
+    numberOf BadKind ∷ numberOf BadRange ∷ numberOf SharedWord ∷ numberOf BadBodies ∷ [])
+    (0 ∷ 1 ∷ 2 ∷ 3 ∷ 6 ∷ 7 ∷ 8 ∷ 9 ∷ 10 ∷ 11 ∷ 12 ∷ []) (0 ∷ 1 ∷ 2 ∷ 3 ∷ 6 ∷ 6 ∷ 8 ∷ 9 ∷ 10 ∷ 11 ∷ 12 ∷ []) (0 ∷ 1 ∷ 2 ∷ 3 ∷ 6 ∷ 7 ∷ 8 ∷ 9 ∷ 11 ∷ 10 ∷ 12 ∷ [])
+    -- questions::check: an entry of kind 5 is accepted; an entry of no words is accepted
+    ∷ some (answered 4 1 (0 ∷ 7 ∷ []) ∷ answered 5 1 (0 ∷ 7 ∷ []) ∷ answered 4 0 [] ∷ []) (0 ∷ 9 ∷ 10 ∷ []) (0 ∷ 0 ∷ 10 ∷ []) (0 ∷ 9 ∷ 0 ∷ [])
+    -- questions::check: bodies of one byte a word are accepted, and bodies of two bytes a word are not; bytes after the bodies are accepted
+    ∷ some (answered 1 1 (7 ∷ []) ∷ answered 1 1 (0 ∷ 7 ∷ []) ∷ answered 1 1 (0 ∷ 7 ∷ 0 ∷ []) ∷ []) (12 ∷ 0 ∷ 12 ∷ []) (0 ∷ 12 ∷ 12 ∷ []) (12 ∷ 0 ∷ 0 ∷ [])
     ∷ []
 
 pub rows-hold : T (hold rows)
-unfolding rows wordAt longAt countOf entryAt
+unfolding rows questions
 rows-hold = tt

@@ -1,4 +1,5 @@
--- The laws of an image's bodies and of loading, and rows of known images.
+-- The laws of an image's bodies and of loading, and rows of known images; wrong answers.
 pub mod BodyLaws
 pub mod LoadLaws
 pub mod Rows
+pub mod Wrong

@@ -23,7 +23,7 @@ used =
       clock = record { ta = 7; tb = 8; taon = false; tbon = false; count = 9 };
     }
 
-abbrev given : ℕ → ℕ → ℕ → Machine
+abbrev pub given : ℕ → ℕ → ℕ → Machine
 given memory pages ports = machine used (replicate memory 10) (replicate pages 16) (replicate ports 12)
 
 -- ---- images
@@ -35,7 +35,7 @@ two n = n / 256 ∷ n % 256 ∷ []
 abbrev four : ℕ → List ℕ
 four n = two (n / 65536) ++ two (n % 65536)
 
-abbrev entry : ℕ → ℕ → ℕ → List ℕ
+abbrev pub entry : ℕ → ℕ → ℕ → List ℕ
 entry kind start n = two kind ++ (four start ++ four n)
 
 abbrev bytes : List ℕ → List ℕ
@@ -43,7 +43,7 @@ bytes [] = []
 bytes (w ∷ ws) = two w ++ bytes ws
 
 -- the number of entries, the table and the words of the bodies
-abbrev image : ℕ → List ℕ → List ℕ → List ℕ
+abbrev pub image : ℕ → List ℕ → List ℕ → List ℕ
 image n table ws = two n ++ (table ++ bytes ws)
 
 -- n entries of one word of memory, from word k on

@@ -14,7 +14,7 @@ use Rattle.report.proofs.Rows.{exampleLines}
 use Rattle.program.specs.Printed.{unless, lengthNumber, loadNumber, started, ranText, printed}
 
 -- one entry: the words 823F, 7900 from word 0 of memory on
-abbrev example : List ℕ
+abbrev pub example : List ℕ
 example = 0 ∷ 1 ∷ 0 ∷ 1 ∷ 0 ∷ 0 ∷ 0 ∷ 0 ∷ 0 ∷ 0 ∷ 0 ∷ 2 ∷ 130 ∷ 63 ∷ 121 ∷ 0 ∷ []
 
 -- the Scope's four lines

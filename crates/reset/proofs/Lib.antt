@@ -1,2 +1,3 @@
--- The laws of reset.
+-- The laws of reset; wrong answers.
 pub mod FillLaws
+pub mod Wrong
