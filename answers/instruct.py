@@ -14,8 +14,8 @@ CHECKED = '← @key-of .ensures .0, ← @group-of .ensures .0, ← @check-span .
 VERDICT = '_ _ _ (@reads .ensures .0) (@writes .ensures .0) (@verify .ensures)'
 # the words that any other reads and writes, by what it needs
 FROM = ('%s %s (@args .n) _ _ %s %s _ _ _ '
-        '(reads-by %s (@args .n) _ _ _ refl (@Start .pre .3) (@read-start .ensures) (@read-count .ensures .0)) (@gather .ensures)' % (AROUND, PAGED, KEY, GROUP, REGS))
-TO = '@span-from .ensures ∙ writes-by %s (@args .n) _ _ _ refl (@Start .pre .1) (@write-start .ensures) (@write-count .ensures .0)' % REGS
+        '(reads-by %s (@args .n) _ _ _ refl (@Start .pre .3) (@read-start .ensures .0) (@read-count .ensures .0)) (@gather .ensures)' % (AROUND, PAGED, KEY, GROUP, REGS))
+TO = '@span-from .ensures ∙ writes-by %s (@args .n) _ _ _ refl (@Start .pre .1) (@write-start .ensures .0) (@write-count .ensures .0)' % REGS
 # the machine that the operation is carried out on, in any state and with any ports
 CARRIED = '%s %s ports (@args .n)' % (AROUND, PAGED)
 STORES = CARRIED + ' _ _ _ _ %s %s (%s) (@check-span .ensures)' % (*keyed(3, 'key-is', 'group-is'), TO)

@@ -19,19 +19,21 @@ def entries(variable, formClaimed):
             'array-read-result': 'search needs', 'returns': 'tabled (λ (k : ℕ). numberOf (%s)) 16 (@args .%s) (array-read-result c)' % (formClaimed, variable)}
 
 
-# where the words start that an operation reads or writes
-def start(done, mark, register, call):
+# where the words start that an operation reads or writes: unless it is on blocks, and whatever it is
+def start(done, doing, defined, register, call):
     law = '%s-%s (@args .regs .now) (@args .n) _ refl p (%s)'
-    told = 'sym (number-%s %s) ∙ @if1 .taken' % (mark, TOLD)
-    untold = 'λ z. @if1 .left (number-%s %s ∙ z)' % (mark, TOLD)
-    return {'use': [LAWS + '{register-%s, operand-%s}' % (done, done), NUMBERS + '{number-%s}' % mark],
-            'returns': 'λ p. rw (%s, ← @field-a .ensures .0%s) (%s .ensures)' % (law % ('register', done, told), register, call),
-            'returns-2': 'λ p. rw (%s) refl' % (law % ('operand', done, untold))}
+    told = 'sym (number-%s %s) ∙ @if1 .taken' % (done, TOLD)
+    untold = 'λ z. @if1 .left (number-%s %s ∙ z)' % (done, TOLD)
+    found = '← @field-a .ensures .0%s) (%s .ensures)' % (register, call)
+    return {'use': [OWN + '{%s}' % defined, LAWS + '{register-%s, operand-%s, %s-known, %s-other}' % (done, done, doing, doing), NUMBERS + '{number-%s}' % done], 'unf': {'*': defined},
+            'returns': '(λ p. rw (%s, %s, rw (%s-known (@args .n .form) (%s), %s)' % (law % ('register', done, told), found, doing, told, found),
+            'returns-2': '(λ p. rw (%s) refl, rw (%s-other (@args .n .form) (%s)) refl)' % (law % ('operand', done, untold), doing, untold)}
 
 
 # and how many they are
-def count(law):
-    return {'use': [OMEGA, NUMBERS + '{%s}' % law], 'returns': '(λ regs p. %s regs (@args .n) (@args .number) (@Start .pre) (search needs) p, omega arith)' % law}
+def count(law, part):
+    return {'use': [OMEGA, NUMBERS + '{%s, %s}' % (law, part)],
+            'returns': '(λ regs p. %s regs (@args .n) (@args .number) (@Start .pre) (search needs) p, omega arith, %s %s)' % (law, part, TOLD)}
 
 
 # the number of a first word by that of its opcode, and what the bits after the opcode choose
@@ -48,8 +50,8 @@ A = {
     'decode_with': {'use': [OTHERWISE, NUMBERS + '{extended, paragraphed, decoded}'], 'unf': {'*': 'extended'},
         'returns': 'rw (%s) (paragraphed _ _ _ (@if1 .taken))' % DECODED, 'returns-2': CHOSEN % (1, 'indexed'), 'returns-3': CHOSEN % (2, 'immediate'),
         'returns-4': CHOSEN % (3, 'special'), 'returns-5': 'rw (%s) (sym (otherwise _ (extended _ _) _ (@match .rest)))' % DECODED},
-    'read_start': start('read', 'read', '', '@get'),
-    'read_count': count('reads-counted'),
-    'write_start': start('written', 'written', ', ← @get .ensures', '@less'),
-    'write_count': count('writes-counted'),
+    'read_start': start('read', 'reading', 'readStart', '', '@get'),
+    'read_count': count('reads-counted', 'first-count'),
+    'write_start': start('written', 'writing', 'writeStart', ', ← @get .ensures', '@less'),
+    'write_count': count('writes-counted', 'second-count'),
 }

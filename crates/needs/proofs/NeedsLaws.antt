@@ -58,6 +58,18 @@ module _ (form : ℕ) where
   pub writing-untold : eqb (operationOf form) 36 ≡ false → needOf (operationOf form) / 32 % 2 ≡ 1 → ⊥
   writing-untold t i = let z = parts (operationOf form) (omega arith) .3 ∙ ap (λ (b : Bool). cond b 1 0) t in omega (arith, z, i)
 
+  pub reading-known : needOf (operationOf form) / 16 % 2 ≡ 1 → eqb (operationOf form) 37 ≡ true
+  reading-known i = told _ _ (parts (operationOf form) (omega arith) .2) i
+
+  pub reading-other : (needOf (operationOf form) / 16 % 2 ≡ 1 → ⊥) → eqb (operationOf form) 37 ≡ false
+  reading-other i = untold _ _ (parts (operationOf form) (omega arith) .2) i
+
+  pub writing-known : needOf (operationOf form) / 32 % 2 ≡ 1 → eqb (operationOf form) 36 ≡ true
+  writing-known i = told _ _ (parts (operationOf form) (omega arith) .3) i
+
+  pub writing-other : (needOf (operationOf form) / 32 % 2 ≡ 1 → ⊥) → eqb (operationOf form) 36 ≡ false
+  writing-other i = untold _ _ (parts (operationOf form) (omega arith) .3) i
+
 -- an operation without the weight of blocks is not j, which has it
 apart : (k j : ℕ) → needOf k / 64 % 2 ≡ 0 → needOf j / 64 % 2 ≡ 1 → eqb k j ≡ false
 apart k j h i = by (eqb k j) refl

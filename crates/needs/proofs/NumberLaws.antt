@@ -162,10 +162,10 @@ module _ (form : ℕ) where
         either (leb (ruleOf op) 9) (eqb (wayOf op) 0 && eqb (needOf op / 64 % 2) 0) (λ u. let l = leb-true (ruleOf op) 9 u in let r = rule in absurd (omega (arith, l, r, a)))
         (λ u. let v = both (eqb (wayOf op) 0) (eqb (needOf op / 64 % 2) 0) u in (eqb-true _ _ (v .0), eqb-true _ _ (v .1))) (t .0)
 
-    first-count : number / 65536 % 4 ≡ countsOf form % 4
+    pub first-count : number / 65536 % 4 ≡ countsOf form % 4
     first-count = let a = above in omega (arith, a)
 
-    second-count : number / 262144 % 4 ≡ countsOf form / 4 % 4
+    pub second-count : number / 262144 % 4 ≡ countsOf form / 4 % 4
     second-count = let a = above in omega (arith, a)
 
     -- the words read, and those written, of one whose operation is not at a register

@@ -9,6 +9,9 @@ use Rattle.choice.specs.Select.{select}
 use Rattle.choice.specs.Table.{tableOf}
 use Rattle.decode.specs.Forms.{modeOf, operationOf}
 use Rattle.decode.specs.Decode.{formOf}
+use Rattle.page.specs.Spans.{wrapped}
+use Rattle.machine.specs.declared.Instruction.{Instruction}
+use Rattle.isa.specs.Fields.{fieldA, register}
 use Rattle.isa.specs.Addressing.{inMemory}
 use Rattle.isa.specs.Accesses.{wordsRead, wordsWritten}
 
@@ -55,3 +58,11 @@ numberOf form = 0x800000 * ruleOf (operationOf form) + 65536 * (needOf (operatio
 -- the table: the form numbers of the 256 opcodes
 unfoldable pub numbers : List ℕ
 numbers = tableOf (λ op. numberOf (formOf op)) 0 256
+
+-- where the words read start, and those written: URS at a register, SJS below one, any other at the derived address. An operation on blocks has its own spans,
+-- and is not asked for these
+unfoldable pub readStart : List ℕ → Instruction → ℕ
+readStart regs n = cond (eqb (operationOf (n .form)) 37) (register regs (fieldA (n .first))) (n .address)
+
+unfoldable pub writeStart : List ℕ → Instruction → ℕ
+writeStart regs n = cond (eqb (operationOf (n .form)) 36) (wrapped (register regs (fieldA (n .first)) + 65535)) (n .address)

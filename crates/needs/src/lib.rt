@@ -5,7 +5,7 @@ ghost use Prim.Native.Nat.{ℕ, _≤_, _<_, _/_, _%_};
 ghost use Rattle.decode.specs.Forms.{operationOf};
 ghost use Rattle.decode.specs.Decode.{formClaimed, decodeOf};
 ghost use Rattle.isa.specs.Accesses.{readsOf, writesOf};
-ghost use Rattle.needs.specs.Needs.{needOf, numberOf, numbers};
+ghost use Rattle.needs.specs.Needs.{needOf, countsOf, numberOf, numbers, readStart, writeStart};
 
 mod numbers;
 
@@ -69,7 +69,7 @@ pub fn decode_with(table: &[u32; 256], first: u16) -> u32
 // Where the words read start, unless the operation is on blocks.
 pub fn read_start(regs: &[u16; 16], n: Instruction, number: u32) -> u16
     requires { ⌜ number ≡ numberOf (n .form) ⌝ }
-    ensures { λ r. ⌜ (needOf (operationOf (n .form)) / 64 % 2 ≡ 0 → r ≡ readsOf (now (regs .entry)) n .start) ⌝ }
+    ensures { λ r. ⌜ (needOf (operationOf (n .form)) / 64 % 2 ≡ 0 → r ≡ readsOf (now (regs .entry)) n .start) × (r ≡ readStart (now (regs .entry)) n) ⌝ }
 {
     if number / 0x0010_0000 % 2 == 1 {
         return get(regs, field_a(n.first));
@@ -80,7 +80,7 @@ pub fn read_start(regs: &[u16; 16], n: Instruction, number: u32) -> u16
 // How many they are.
 pub fn read_count(n: Instruction, number: u32) -> u16
     requires { ⌜ number ≡ numberOf (n .form) ⌝ }
-    ensures { λ r. ⌜ ((regs : List ℕ) → needOf (operationOf (n .form)) / 64 % 2 ≡ 0 → r ≡ readsOf regs n .count) × (r ≤ 3) ⌝ }
+    ensures { λ r. ⌜ ((regs : List ℕ) → needOf (operationOf (n .form)) / 64 % 2 ≡ 0 → r ≡ readsOf regs n .count) × (r ≤ 3) × (r ≡ countsOf (n .form) % 4) ⌝ }
 {
     (number / 0x0001_0000 % 4) as u16
 }
@@ -88,7 +88,7 @@ pub fn read_count(n: Instruction, number: u32) -> u16
 // Where the words written start, unless the operation is on blocks.
 pub fn write_start(regs: &[u16; 16], n: Instruction, number: u32) -> u16
     requires { ⌜ number ≡ numberOf (n .form) ⌝ }
-    ensures { λ r. ⌜ (needOf (operationOf (n .form)) / 64 % 2 ≡ 0 → r ≡ writesOf (now (regs .entry)) n .start) ⌝ }
+    ensures { λ r. ⌜ (needOf (operationOf (n .form)) / 64 % 2 ≡ 0 → r ≡ writesOf (now (regs .entry)) n .start) × (r ≡ writeStart (now (regs .entry)) n) ⌝ }
 {
     if number / 0x0020_0000 % 2 == 1 {
         return less(get(regs, field_a(n.first)), 1);
@@ -99,7 +99,7 @@ pub fn write_start(regs: &[u16; 16], n: Instruction, number: u32) -> u16
 // How many they are.
 pub fn write_count(n: Instruction, number: u32) -> u16
     requires { ⌜ number ≡ numberOf (n .form) ⌝ }
-    ensures { λ r. ⌜ ((regs : List ℕ) → needOf (operationOf (n .form)) / 64 % 2 ≡ 0 → r ≡ writesOf regs n .count) × (r ≤ 3) ⌝ }
+    ensures { λ r. ⌜ ((regs : List ℕ) → needOf (operationOf (n .form)) / 64 % 2 ≡ 0 → r ≡ writesOf regs n .count) × (r ≤ 3) × (r ≡ countsOf (n .form) / 4 % 4) ⌝ }
 {
     (number / 0x0004_0000 % 4) as u16
 }

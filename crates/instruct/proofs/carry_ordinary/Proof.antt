@@ -1,4 +1,4 @@
--- Written by tools/prove.py from answers/instruct.py: answer 74fda0befd67, proof 085ee1e82930.
+-- Written by tools/prove.py from answers/instruct.py: answer 3a10c3fcc9fe, proof 608622fac0df.
 -- `instruct::carry_ordinary` meets its contract. Assumes nothing.
 use Rattle.instruct.proofs.UserLaws.{reads-by}
 use Rattle.instruct.proofs.carry_ordinary.Statement.{statement}
@@ -19,13 +19,13 @@ gather-requires : tie.Need-gather-requires
 gather-requires c κs = (c .before .before .before .before .before .before .pre .0, (c .before .before .before .before .before .before .pre .1 .group-small), c .read-count .ensures .1)
 
 proceed-requires : tie.Need-proceed-requires
-proceed-requires c κs = let s = resetState in (c .before .before .before .before .before .before .before .before .before .before .pre .0, c .before .before .before .before .before .before .before .before .before .before .pre .3, words-read (withProcessor s (joined (c .before .before .before .before .before .before .before .before .before .before .args .core) (c .before .before .before .before .before .before .before .before .before .before .args .regs .now))) (c .before .before .before .before .before .before .before .before .before .before .args .memory .now) (c .before .before .before .before .before .before .before .before .before .before .args .pages .now) (c .before .before .before .before .before .before .before .before .before .before .args .n) _ _ (c .before .before .before .before .before .before .before .before .before .before .pre .1 .key-is) (c .before .before .before .before .before .before .before .before .before .before .pre .1 .group-is) _ _ _ (reads-by (c .before .before .before .before .before .before .before .before .before .before .args .regs .now) (c .before .before .before .before .before .before .before .before .before .before .args .n) _ _ _ refl (c .before .before .before .before .before .before .before .before .before .before .pre .3) (c .before .before .before .before .before .before .read-start .ensures) (c .before .before .before .before .read-count .ensures .0)) (c .before .before .before .gather .ensures) (c .before .before .if1 .taken), c .before .before .before .before .before .before .before .before .before .before .pre .1, c .before .before .before .before .before .before .before .before .before .before .pre .2, c .before .before .before .before .before .before .before .before .before .before .pre .4)
+proceed-requires c κs = let s = resetState in (c .before .before .before .before .before .before .before .before .before .before .pre .0, c .before .before .before .before .before .before .before .before .before .before .pre .3, words-read (withProcessor s (joined (c .before .before .before .before .before .before .before .before .before .before .args .core) (c .before .before .before .before .before .before .before .before .before .before .args .regs .now))) (c .before .before .before .before .before .before .before .before .before .before .args .memory .now) (c .before .before .before .before .before .before .before .before .before .before .args .pages .now) (c .before .before .before .before .before .before .before .before .before .before .args .n) _ _ (c .before .before .before .before .before .before .before .before .before .before .pre .1 .key-is) (c .before .before .before .before .before .before .before .before .before .before .pre .1 .group-is) _ _ _ (reads-by (c .before .before .before .before .before .before .before .before .before .before .args .regs .now) (c .before .before .before .before .before .before .before .before .before .before .args .n) _ _ _ refl (c .before .before .before .before .before .before .before .before .before .before .pre .3) (c .before .before .before .before .before .before .read-start .ensures .0) (c .before .before .before .before .read-count .ensures .0)) (c .before .before .before .gather .ensures) (c .before .before .if1 .taken), c .before .before .before .before .before .before .before .before .before .before .pre .1, c .before .before .before .before .before .before .before .before .before .before .pre .2, c .before .before .before .before .before .before .before .before .before .before .pre .4)
 
 returns : tie.Need-returns
-returns c = λ ports. (λ s. rw (← carried-read (withProcessor s (joined (c .before .before .before .before .before .before .before .before .before .before .before .before .before .args .core) (c .before .before .before .before .before .before .before .before .before .before .before .before .before .args .regs .now))) (c .before .before .before .before .before .before .before .before .before .before .before .before .before .args .memory .now) (c .before .before .before .before .before .before .before .before .before .before .before .before .before .args .pages .now) (c .before .before .before .before .before .before .before .before .before .before .before .before .before .args .n) _ _ (c .before .before .before .before .before .before .before .before .before .before .before .before .before .pre .1 .key-is) (c .before .before .before .before .before .before .before .before .before .before .before .before .before .pre .1 .group-is) _ _ _ (reads-by (c .before .before .before .before .before .before .before .before .before .before .before .before .before .args .regs .now) (c .before .before .before .before .before .before .before .before .before .before .before .before .before .args .n) _ _ _ refl (c .before .before .before .before .before .before .before .before .before .before .before .before .before .pre .3) (c .before .before .before .before .before .before .before .before .before .read-start .ensures) (c .before .before .before .before .before .before .before .read-count .ensures .0)) (c .before .before .before .before .before .before .gather .ensures) ports (c .before .before .before .before .before .if1 .taken)) (c .before .before .proceed .ensures ports .0 s), c .before .before .proceed .ensures ports .1)
+returns c = λ ports. (λ s. rw (← carried-read (withProcessor s (joined (c .before .before .before .before .before .before .before .before .before .before .before .before .before .args .core) (c .before .before .before .before .before .before .before .before .before .before .before .before .before .args .regs .now))) (c .before .before .before .before .before .before .before .before .before .before .before .before .before .args .memory .now) (c .before .before .before .before .before .before .before .before .before .before .before .before .before .args .pages .now) (c .before .before .before .before .before .before .before .before .before .before .before .before .before .args .n) _ _ (c .before .before .before .before .before .before .before .before .before .before .before .before .before .pre .1 .key-is) (c .before .before .before .before .before .before .before .before .before .before .before .before .before .pre .1 .group-is) _ _ _ (reads-by (c .before .before .before .before .before .before .before .before .before .before .before .before .before .args .regs .now) (c .before .before .before .before .before .before .before .before .before .before .before .before .before .args .n) _ _ _ refl (c .before .before .before .before .before .before .before .before .before .before .before .before .before .pre .3) (c .before .before .before .before .before .before .before .before .before .read-start .ensures .0) (c .before .before .before .before .before .before .before .read-count .ensures .0)) (c .before .before .before .before .before .before .gather .ensures) ports (c .before .before .before .before .before .if1 .taken)) (c .before .before .proceed .ensures ports .0 s), c .before .before .proceed .ensures ports .1)
 
 returns-2 : tie.Need-returns-2
-returns-2 c = λ ports. (λ s. rw (c .deny .ensures, timer-none _ _, ← carried-denied (withProcessor s (joined (c .before .before .before .before .before .before .before .before .before .before .before .args .core) (c .before .before .before .before .before .before .before .before .before .before .before .args .regs .now))) (c .before .before .before .before .before .before .before .before .before .before .before .args .memory .now) (c .before .before .before .before .before .before .before .before .before .before .before .args .pages .now) (c .before .before .before .before .before .before .before .before .before .before .before .args .n) _ _ (c .before .before .before .before .before .before .before .before .before .before .before .pre .1 .key-is) (c .before .before .before .before .before .before .before .before .before .before .before .pre .1 .group-is) _ _ _ (reads-by (c .before .before .before .before .before .before .before .before .before .before .before .args .regs .now) (c .before .before .before .before .before .before .before .before .before .before .before .args .n) _ _ _ refl (c .before .before .before .before .before .before .before .before .before .before .before .pre .3) (c .before .before .before .before .before .before .before .read-start .ensures) (c .before .before .before .before .before .read-count .ensures .0)) (c .before .before .before .before .gather .ensures) ports (c .before .before .before .if1 .left), ← c .before .advance .ensures) (failed (withProcessor s (joined (c .before .before .before .before .before .before .before .before .before .before .before .args .core) (c .before .before .before .before .before .before .before .before .before .before .before .args .regs .now))) _ (c .before .before .before .before .before .before .before .before .before .before .before .args .memory .now) _ (c .before .before .before .before .before .before .before .before .before .before .before .args .pages .now) ports _ _ (refl) refl), rw (c .deny .ensures) (unsettled-lasting _ _ refl))
+returns-2 c = λ ports. (λ s. rw (c .deny .ensures, timer-none _ _, ← carried-denied (withProcessor s (joined (c .before .before .before .before .before .before .before .before .before .before .before .args .core) (c .before .before .before .before .before .before .before .before .before .before .before .args .regs .now))) (c .before .before .before .before .before .before .before .before .before .before .before .args .memory .now) (c .before .before .before .before .before .before .before .before .before .before .before .args .pages .now) (c .before .before .before .before .before .before .before .before .before .before .before .args .n) _ _ (c .before .before .before .before .before .before .before .before .before .before .before .pre .1 .key-is) (c .before .before .before .before .before .before .before .before .before .before .before .pre .1 .group-is) _ _ _ (reads-by (c .before .before .before .before .before .before .before .before .before .before .before .args .regs .now) (c .before .before .before .before .before .before .before .before .before .before .before .args .n) _ _ _ refl (c .before .before .before .before .before .before .before .before .before .before .before .pre .3) (c .before .before .before .before .before .before .before .read-start .ensures .0) (c .before .before .before .before .before .read-count .ensures .0)) (c .before .before .before .before .gather .ensures) ports (c .before .before .before .if1 .left), ← c .before .advance .ensures) (failed (withProcessor s (joined (c .before .before .before .before .before .before .before .before .before .before .before .args .core) (c .before .before .before .before .before .before .before .before .before .before .before .args .regs .now))) _ (c .before .before .before .before .before .before .before .before .before .before .before .args .memory .now) _ (c .before .before .before .before .before .before .before .before .before .before .before .args .pages .now) ports _ _ (refl) refl), rw (c .deny .ensures) (unsettled-lasting _ _ refl))
 
 pub carry-ordinary-spec : {M : Type 1} → statement M
 carry-ordinary-spec =

@@ -1,4 +1,4 @@
--- Written by tools/prove.py from answers/instruct.py: answer f46bc10173a7, proof 88e134b97f86.
+-- Written by tools/prove.py from answers/instruct.py: answer 94e35cd23d59, proof bd091b17df15.
 -- `instruct::proceed` meets its contract. Assumes nothing.
 use Rattle.accumulate.proofs.WayLaws.{way-user}
 use Rattle.instruct.proofs.UserLaws.{writes-by, few-written, worked-ordinary, became-worked, settled-by}
@@ -23,15 +23,15 @@ check-span-requires : tie.Need-check-span-requires
 check-span-requires c κs = (c .before .before .before .before .before .before .pre .0, (c .before .before .before .before .before .before .pre .3 .group-small))
 
 work-requires : tie.Need-work-requires
-work-requires c κs = (c .before .before .before .before .before .before .before .before .before .before .before .pre .0, rw (c .before .before .before .before .before .span-from .ensures ∙ writes-by (c .before .before .before .before .before .before .before .before .before .before .before .args .regs .now) (c .before .before .before .before .before .before .before .before .before .before .before .args .n) _ _ _ refl (c .before .before .before .before .before .before .before .before .before .before .before .pre .1) (c .before .before .before .before .before .before .before .write-start .ensures) (c .before .before .before .before .before .before .write-count .ensures .0)) (few-written (c .before .before .before .before .before .before .before .before .before .before .before .args .regs .now) (c .before .before .before .before .before .before .before .before .before .before .before .args .n) (c .before .before .before .before .before .before .before .before .before .before .before .pre .1)), c .before .before .before .before .before .before .before .before .before .before .before .pre .5)
+work-requires c κs = (c .before .before .before .before .before .before .before .before .before .before .before .pre .0, rw (c .before .before .before .before .before .span-from .ensures ∙ writes-by (c .before .before .before .before .before .before .before .before .before .before .before .args .regs .now) (c .before .before .before .before .before .before .before .before .before .before .before .args .n) _ _ _ refl (c .before .before .before .before .before .before .before .before .before .before .before .pre .1) (c .before .before .before .before .before .before .before .write-start .ensures .0) (c .before .before .before .before .before .before .write-count .ensures .0)) (few-written (c .before .before .before .before .before .before .before .before .before .before .before .args .regs .now) (c .before .before .before .before .before .before .before .before .before .before .before .args .n) (c .before .before .before .before .before .before .before .before .before .before .before .pre .1)), c .before .before .before .before .before .before .before .before .before .before .before .pre .5)
 
 returns : tie.Need-returns
 unfolding operated mil1750 contextOf
-returns c = λ ports. (λ s. rw (c .weighed .ensures, timer-none _ _, ← accessed-clear (withProcessor s (joined (c .before .before .before .before .before .before .before .before .before .before .before .before .before .before .before .args .core) (c .before .before .before .before .before .before .before .before .before .before .before .before .before .before .before .args .regs .now))) (c .before .before .before .before .before .before .before .before .before .before .before .before .before .before .before .args .memory .now) (c .before .before .before .before .before .before .before .before .before .before .before .before .before .before .before .args .pages .now) ports (c .before .before .before .before .before .before .before .before .before .before .before .before .before .before .before .args .n) _ _ _ _ (c .before .before .before .before .before .before .before .before .before .before .before .before .before .before .before .pre .3 .key-is) (c .before .before .before .before .before .before .before .before .before .before .before .before .before .before .before .pre .3 .group-is) (c .before .before .before .before .before .before .before .before .before .span-from .ensures ∙ writes-by (c .before .before .before .before .before .before .before .before .before .before .before .before .before .before .before .args .regs .now) (c .before .before .before .before .before .before .before .before .before .before .before .before .before .before .before .args .n) _ _ _ refl (c .before .before .before .before .before .before .before .before .before .before .before .before .before .before .before .pre .1) (c .before .before .before .before .before .before .before .before .before .before .before .write-start .ensures) (c .before .before .before .before .before .before .before .before .before .before .write-count .ensures .0)) (c .before .before .before .before .before .before .before .before .check-span .ensures) (c .before .before .before .before .before .before .enum-told .given .1), way-user (c .before .before .before .before .before .before .before .before .before .before .before .before .before .before .before .args .n) 0 (c .before .before .before .before .before .before .before .before .before .before .before .before .before .before .before .pre .5) (omega arith)) (became-worked (withProcessor s (joined (c .before .before .before .before .before .before .before .before .before .before .before .before .before .before .before .args .core) (c .before .before .before .before .before .before .before .before .before .before .before .before .before .before .before .args .regs .now))) (c .before .before .before .before .before .before .before .before .before .before .before .before .before .before .before .args .memory .now) (c .before .before .before .before .before .before .before .before .before .before .before .before .before .before .before .args .pages .now) ports (c .before .before .before .before .before .before .before .before .before .before .before .before .before .before .before .args .n) _ _ _ (worked-ordinary (joined (c .before .before .before .before .before .before .before .before .before .before .before .before .before .before .before .args .core) (c .before .before .before .before .before .before .before .before .before .before .before .before .before .before .before .args .regs .now)) (c .before .before .before .before .before .before .before .before .before .before .before .before .before .before .before .args .memory .now) (c .before .before .before .before .before .before .before .before .before .before .before .before .before .before .before .args .pages .now) (c .before .before .before .before .before .before .before .before .before .before .before .before .before .before .before .args .n) _ _ _ _ _ _ _ (c .before .before .before .before .before .before .before .before .before .before .before .before .before .before .before .pre .1) (c .before .before .before .before .before .before .before .before .before .before .before .before .before .before .before .pre .2) (c .before .before .before .before .before .before .before .before .before .span-from .ensures ∙ writes-by (c .before .before .before .before .before .before .before .before .before .before .before .before .before .before .before .args .regs .now) (c .before .before .before .before .before .before .before .before .before .before .before .before .before .before .before .args .n) _ _ _ refl (c .before .before .before .before .before .before .before .before .before .before .before .before .before .before .before .pre .1) (c .before .before .before .before .before .before .before .before .before .before .before .write-start .ensures) (c .before .before .before .before .before .before .before .before .before .before .write-count .ensures .0)) (c .before .before .before .work .ensures .0) (c .before .before .before .work .ensures .1))), settled-by (c .before .before .before .before .before .before .before .before .before .before .before .before .before .before .before .args .core) _ _ (c .before .before .before .before .before .before .before .before .before .before .before .before .before .before .before .args .regs .now) _ _ (c .weighed .ensures) (c .before .before .before .work .ensures .0))
+returns c = λ ports. (λ s. rw (c .weighed .ensures, timer-none _ _, ← accessed-clear (withProcessor s (joined (c .before .before .before .before .before .before .before .before .before .before .before .before .before .before .before .args .core) (c .before .before .before .before .before .before .before .before .before .before .before .before .before .before .before .args .regs .now))) (c .before .before .before .before .before .before .before .before .before .before .before .before .before .before .before .args .memory .now) (c .before .before .before .before .before .before .before .before .before .before .before .before .before .before .before .args .pages .now) ports (c .before .before .before .before .before .before .before .before .before .before .before .before .before .before .before .args .n) _ _ _ _ (c .before .before .before .before .before .before .before .before .before .before .before .before .before .before .before .pre .3 .key-is) (c .before .before .before .before .before .before .before .before .before .before .before .before .before .before .before .pre .3 .group-is) (c .before .before .before .before .before .before .before .before .before .span-from .ensures ∙ writes-by (c .before .before .before .before .before .before .before .before .before .before .before .before .before .before .before .args .regs .now) (c .before .before .before .before .before .before .before .before .before .before .before .before .before .before .before .args .n) _ _ _ refl (c .before .before .before .before .before .before .before .before .before .before .before .before .before .before .before .pre .1) (c .before .before .before .before .before .before .before .before .before .before .before .write-start .ensures .0) (c .before .before .before .before .before .before .before .before .before .before .write-count .ensures .0)) (c .before .before .before .before .before .before .before .before .check-span .ensures) (c .before .before .before .before .before .before .enum-told .given .1), way-user (c .before .before .before .before .before .before .before .before .before .before .before .before .before .before .before .args .n) 0 (c .before .before .before .before .before .before .before .before .before .before .before .before .before .before .before .pre .5) (omega arith)) (became-worked (withProcessor s (joined (c .before .before .before .before .before .before .before .before .before .before .before .before .before .before .before .args .core) (c .before .before .before .before .before .before .before .before .before .before .before .before .before .before .before .args .regs .now))) (c .before .before .before .before .before .before .before .before .before .before .before .before .before .before .before .args .memory .now) (c .before .before .before .before .before .before .before .before .before .before .before .before .before .before .before .args .pages .now) ports (c .before .before .before .before .before .before .before .before .before .before .before .before .before .before .before .args .n) _ _ _ (worked-ordinary (joined (c .before .before .before .before .before .before .before .before .before .before .before .before .before .before .before .args .core) (c .before .before .before .before .before .before .before .before .before .before .before .before .before .before .before .args .regs .now)) (c .before .before .before .before .before .before .before .before .before .before .before .before .before .before .before .args .memory .now) (c .before .before .before .before .before .before .before .before .before .before .before .before .before .before .before .args .pages .now) (c .before .before .before .before .before .before .before .before .before .before .before .before .before .before .before .args .n) _ _ _ _ _ _ _ (c .before .before .before .before .before .before .before .before .before .before .before .before .before .before .before .pre .1) (c .before .before .before .before .before .before .before .before .before .before .before .before .before .before .before .pre .2) (c .before .before .before .before .before .before .before .before .before .span-from .ensures ∙ writes-by (c .before .before .before .before .before .before .before .before .before .before .before .before .before .before .before .args .regs .now) (c .before .before .before .before .before .before .before .before .before .before .before .before .before .before .before .args .n) _ _ _ refl (c .before .before .before .before .before .before .before .before .before .before .before .before .before .before .before .pre .1) (c .before .before .before .before .before .before .before .before .before .before .before .write-start .ensures .0) (c .before .before .before .before .before .before .before .before .before .before .write-count .ensures .0)) (c .before .before .before .work .ensures .0) (c .before .before .before .work .ensures .1))), settled-by (c .before .before .before .before .before .before .before .before .before .before .before .before .before .before .before .args .core) _ _ (c .before .before .before .before .before .before .before .before .before .before .before .before .before .before .before .args .regs .now) _ _ (c .weighed .ensures) (c .before .before .before .work .ensures .0))
 
 returns-2 : tie.Need-returns-2
 unfolding operated mil1750 contextOf
-returns-2 c = λ ports. (λ s. rw (c .deny .ensures, timer-none _ _, ← accessed-fault (withProcessor s (joined (c .before .before .before .before .before .before .before .before .before .before .before .before .before .args .core) (c .before .before .before .before .before .before .before .before .before .before .before .before .before .args .regs .now))) (c .before .before .before .before .before .before .before .before .before .before .before .before .before .args .memory .now) (c .before .before .before .before .before .before .before .before .before .before .before .before .before .args .pages .now) ports (c .before .before .before .before .before .before .before .before .before .before .before .before .before .args .n) _ _ _ _ (c .before .before .before .before .before .before .before .before .before .before .before .before .before .pre .3 .key-is) (c .before .before .before .before .before .before .before .before .before .before .before .before .before .pre .3 .group-is) (c .before .before .before .before .before .before .before .span-from .ensures ∙ writes-by (c .before .before .before .before .before .before .before .before .before .before .before .before .before .args .regs .now) (c .before .before .before .before .before .before .before .before .before .before .before .before .before .args .n) _ _ _ refl (c .before .before .before .before .before .before .before .before .before .before .before .before .before .pre .1) (c .before .before .before .before .before .before .before .before .before .write-start .ensures) (c .before .before .before .before .before .before .before .before .write-count .ensures .0)) (c .before .before .before .before .before .before .check-span .ensures) _ (c .before .before .before .before .verdict .given .1), ← c .before .advance .ensures) (failed (withProcessor s (joined (c .before .before .before .before .before .before .before .before .before .before .before .before .before .args .core) (c .before .before .before .before .before .before .before .before .before .before .before .before .before .args .regs .now))) _ (c .before .before .before .before .before .before .before .before .before .before .before .before .before .args .memory .now) _ (c .before .before .before .before .before .before .before .before .before .before .before .before .before .args .pages .now) ports _ _ (refl) refl), rw (c .deny .ensures) (unsettled-lasting _ _ refl))
+returns-2 c = λ ports. (λ s. rw (c .deny .ensures, timer-none _ _, ← accessed-fault (withProcessor s (joined (c .before .before .before .before .before .before .before .before .before .before .before .before .before .args .core) (c .before .before .before .before .before .before .before .before .before .before .before .before .before .args .regs .now))) (c .before .before .before .before .before .before .before .before .before .before .before .before .before .args .memory .now) (c .before .before .before .before .before .before .before .before .before .before .before .before .before .args .pages .now) ports (c .before .before .before .before .before .before .before .before .before .before .before .before .before .args .n) _ _ _ _ (c .before .before .before .before .before .before .before .before .before .before .before .before .before .pre .3 .key-is) (c .before .before .before .before .before .before .before .before .before .before .before .before .before .pre .3 .group-is) (c .before .before .before .before .before .before .before .span-from .ensures ∙ writes-by (c .before .before .before .before .before .before .before .before .before .before .before .before .before .args .regs .now) (c .before .before .before .before .before .before .before .before .before .before .before .before .before .args .n) _ _ _ refl (c .before .before .before .before .before .before .before .before .before .before .before .before .before .pre .1) (c .before .before .before .before .before .before .before .before .before .write-start .ensures .0) (c .before .before .before .before .before .before .before .before .write-count .ensures .0)) (c .before .before .before .before .before .before .check-span .ensures) _ (c .before .before .before .before .verdict .given .1), ← c .before .advance .ensures) (failed (withProcessor s (joined (c .before .before .before .before .before .before .before .before .before .before .before .before .before .args .core) (c .before .before .before .before .before .before .before .before .before .before .before .before .before .args .regs .now))) _ (c .before .before .before .before .before .before .before .before .before .before .before .before .before .args .memory .now) _ (c .before .before .before .before .before .before .before .before .before .before .before .before .before .args .pages .now) ports _ _ (refl) refl), rw (c .deny .ensures) (unsettled-lasting _ _ refl))
 
 pub proceed-spec : {M : Type 1} → statement M
 proceed-spec =
