@@ -32,11 +32,6 @@ use Rattle.accumulate.specs.Ways.{plain, intoSingle, intoDouble, target,
 
 -- ---- the way of an operation
 
--- no way is above 8
-pub way-most : (form : ℕ) → wayOf (operationOf form) ≤ 8
-unfolding wayOf
-way-most form = leb-true _ _ (passes (λ (k : ℕ). leb (wayOf k) 8) 256 refl (operationOf form) (omega arith))
-
 -- what is tested at every operation whose way is w holds of each of them
 of-way : (w : ℕ) (f : ℕ → Bool) → ((k : ℕ) → k < 256 → not (eqb (wayOf k) w) || f k ≡ true) → (k : ℕ) → k < 256 → wayOf k ≡ w → f k ≡ true
 of-way w f t k h e =

@@ -158,10 +158,3 @@ module _ (regs : List ℕ) (n : Instruction) (need : ℕ) (e : need ≡ needOf (
   writes-span = marked (writesOf regs n) (need / 32 % 2) _ _ _ register-written operand-written
 
 -- ---- the way of an operation that is carried out directly
-
-ways-told : (k : ℕ) → k < 256 → needOf k / 128 ≡ wayOf k
-unfolding needOf exceptions wayOf wordsRead wordsMoved wordsOfFloat wordsOfInteger wordsWritten
-ways-told k h = eqb-true _ _ (passes (λ (j : ℕ). eqb (needOf j / 128) (wayOf j)) 256 refl k h)
-
-pub way-told : (form need : ℕ) → need ≡ needOf (operationOf form) → need / 128 ≡ wayOf (operationOf form)
-way-told form need e = ap (λ (m : ℕ). m / 128) e ∙ ways-told (operationOf form) (omega arith)
