@@ -7,9 +7,9 @@ use mathlib.Core.Option.{Option, none, some}
 use borrow.Author.Tests.{ne-eqb}
 use Rattle.machine.specs.Machine.{Machine, Isa}
 use Rattle.machine.specs.Step.{step}
-use Rattle.machine.specs.Timelines.{stepsIn, stepsLater, afterItem, play, entryIn}
-use Rattle.machine.specs.Runs.{Run, numberOf, answerOf, stepsOf, made, items, consUnless, steps, left, afterRuns, timeline, total, firstEntry, beforeEntry}
-use Rattle.machine.proofs.TimelineLaws.{some≢none, later-none, firstOr, play-append, steps-append, entry-append, steps-repeated}
+use Rattle.machine.specs.Timelines.{stepsLater, play, entryIn}
+use Rattle.machine.specs.Runs.{Run, numberOf, answerOf, stepsOf, made, items, consUnless, steps, left, afterRuns, timeline, firstEntry, beforeEntry}
+use Rattle.machine.proofs.TimelineLaws.{some≢none, later-none, firstOr, play-append, stepsIn, steps-append, entry-append, steps-repeated}
 
 -- ---- one run
 
@@ -28,7 +28,7 @@ unfolding steps play
 steps-zero isa x = refl
 
 pub steps-suc : (isa : Isa) (n : ℕ) (x : Machine) → steps isa (suc n) x ≡ steps isa n (step isa x)
-unfolding steps play afterItem
+unfolding steps play
 steps-suc isa n x = refl
 
 -- ---- a list of runs is its timeline
@@ -38,7 +38,10 @@ unfolding afterRuns timeline left play
 after-play isa [] x = refl
 after-play isa (r ∷ rs) x = after-play isa rs (left isa x r) ∙ sym (play-append isa (items x r) (timeline isa rs (left isa x r)) x)
 
--- it makes as many steps as its runs
+-- how many steps it makes: as many as its runs
+unfoldable pub total : Isa → List Run → Machine → ℕ
+total isa rs x = stepsIn (timeline isa rs x)
+
 pub total-nil : (isa : Isa) (x : Machine) → total isa [] x ≡ 0
 unfolding total timeline stepsIn
 total-nil isa x = refl
