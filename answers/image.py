@@ -12,7 +12,8 @@ COMPARED = '_ _ _ (@loop-test .taken) _ (@entry-at .ensures) _ (@shares .ensures
 ANSWERED = '_ _ _ _ (@loop-test .taken) _ (@check-entry .ensures) _ (@number .ensures)'
 
 A = importing({
-    'Rattle.image.specs.Image': 'wordAt longAt countOf entryAt wordsBefore asked targetSize endOf share sharesEarlier entriesAnswer admission',
+    'Rattle.image.specs.Image': 'wordAt longAt countOf entryAt wordsBefore targetSize endOf share sharesEarlier entriesAnswer admission',
+    'Rattle.machine.specs.Runs': 'asked',
     'Rattle.image.proofs.QuestionLaws': 'words-more shares-none shares-here shares-on kind-below kind-above no-words outside shared entry-right '
         'entries-none entries-on entries-out no-count many-entries short-table bad-entry bad-bodies image-right',
 }, {

@@ -1,5 +1,4 @@
 # The answers from which the proofs of the crate `interrupt` are written.
-FOUNDS = 'Rattle.interrupt.specs.Founds.'
 LAWS = 'Rattle.interrupt.proofs.VectorLaws.'
 
 # where the service pointer and the last word of a vector were found
@@ -17,8 +16,8 @@ A = {
         cast_result='omega (arith, leading-le 16 (bitAnd (@args .pi) (@take .result)))'),
     'pointers/fault_of': by(ENTRIES + ' faultOf', returns='cc', returns_2='cc'),
     'pointers/read_zero': by(ENTRIES + ' gotZero', returns='@read-word .ensures'),
-    'pointers/vector_each': by(ENTRIES + ' vectorOf', SPANS + ' wrapped'),
-    'pointers/vector_found': by(FOUNDS + ' foundOr', use=[OMEGA, 'Prim.Native.Nat.{_+_, _*_}', LAWS + '{inside-at, room-before, inside-before, vector-together}'],
+    'pointers/vector_each': by(ENTRIES + ' vectorAt', SPANS + ' wrapped'),
+    'pointers/vector_found': by(use=[OMEGA, 'Prim.Native.Nat.{_+_, _*_}', LAWS + '{all-found, not-found, inside-at, room-before, inside-before, vector-together}'],
         mul_base='omega (arith, %s)' % (INSIDE + AT_SERVICE), shared_slice_read_base='search (needs, %s)' % (INSIDE + AT_SERVICE),
         sub_link='omega (arith, room-before %s)' % SERVICE, mul_link='omega (arith, inside-before %s)' % SERVICE,
         shared_slice_read_link='search (needs, inside-before %s)' % SERVICE,
@@ -27,8 +26,8 @@ A = {
         sub_sw='omega (arith, room-before %s)' % (LAST % '1'), mul_sw='omega (arith, inside-before %s)' % (LAST % '1'),
         shared_slice_read_sw='search (needs, inside-before %s)' % (LAST % '1'),
         mul_ic='omega (arith, %s)' % (INSIDE + AT_LAST), shared_slice_read_ic='search (needs, %s)' % (INSIDE + AT_LAST),
-        returns='refl', returns_3='refl', returns_4='refl',
-        returns_2='sym (vector-together %s (@args .n) _ _ _ (omega arith) %s (@wrapping-add-u16 .ensures) (@if1 .left) %s)' % (PAGED, AT_SERVICE, AT_LAST)),
-    'pointers/vector': by(FOUNDS + ' foundOr', returns='rw (@found .given .1) at (@vector-found .ensures)', returns_2='@vector-each .ensures'),
-    'pointers/call_vector': by(ENTRIES + ' callOf', SPANS + ' wrapped'),
+        returns='λ v e. not-found v e', returns_3='λ v e. not-found v e', returns_4='λ v e. not-found v e',
+        returns_2='λ v e. all-found v _ _ e (vector-together %s (@args .n) _ _ _ (omega arith) %s (@wrapping-add-u16 .ensures) (@if1 .left) %s)' % (PAGED, AT_SERVICE, AT_LAST)),
+    'pointers/vector': by(ENTRIES + ' vectorOf', returns='@vector-found .ensures _ (@found .given .1)', returns_2='@vector-each .ensures'),
+    'pointers/call_vector': by(ENTRIES + ' callOf', returns='@vector-each .ensures'),
 }

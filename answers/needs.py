@@ -6,8 +6,8 @@ NUMBERS = 'Rattle.needs.proofs.NumberLaws.'
 DECODE = 'Rattle.decode.specs.Decode.'
 DECODE_LAWS = 'Rattle.decode.proofs.DecodeLaws.'
 # all that a form number is computed from
-NUMBER = 'numberOf ruleOf countsOf needOf exceptions wayOf wordsRead wordsMoved wordsOfFloat wordsOfInteger wordsWritten inMemory'
-OPENED = [OWN + '{numberOf, ruleOf, countsOf, needOf, exceptions, wayOf}', ACCESSES + '{wordsMoved, wordsOfInteger, wordsOfFloat, wordsRead, wordsWritten}', ADDRESSING + '{inMemory}']
+NUMBER = 'numberOf ruleOf countsOf needOf exceptions wayOf wordsRead wordsWritten inMemory'
+OPENED = [OWN + '{numberOf, ruleOf, countsOf, needOf, exceptions, wayOf}', ACCESSES + '{wordsRead, wordsWritten}', ADDRESSING + '{inMemory}']
 PAGES = 'Rattle.decode.specs.Pages.{pages}'
 # the number of a form is that of the form in the instruction
 TOLD = '(@args .n .form) (@args .number) (@Start .pre) (search needs)'

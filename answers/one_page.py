@@ -1,5 +1,5 @@
 # The answers from which the proofs of the crate `one_page` are written.
-ROWS = 'Rattle.one_page.specs.Rows.{upwards, downwards, storedAt}'
+ROWS = 'Rattle.one_page.specs.Rows.{storedAt}'
 HERE = 'Rattle.one_page.proofs.HereLaws.'
 
 # an attempt: its key and group; what its functions require; the row that it found
@@ -18,12 +18,12 @@ A = {
         returns='rw (lt-ltb _ _ (@if1 .taken)) refl', returns_2='rw (le-ltb _ _ (@if1 .left), ← @look-up .ensures, @enum-told .given .1) refl',
         returns_3='rw (le-ltb _ _ (@if1 .left), ← @look-up .ensures, @place .given .1, lt-ltb _ _ (@if2 .taken)) refl',
         returns_4='rw (le-ltb _ _ (@if1 .left), ← @look-up .ensures, @place .given .1, le-ltb _ _ (@if2 .left)) refl'),
-    'rows/store_row': by(use=[OMEGA, NATURALS, LENGTHS, ROWS, HERE + '{stored-none, stored-step}'],
+    'rows/store_row': by(use=[OMEGA, NATURALS, LENGTHS, ROWS, HERE + '{upwards, stored-none, stored-step}'],
         Inv_loop='(i + left ≤ 16) × (p + i + left ≤ length memory₀) × (length memory ≡ length memory₀) × (storedAt (upwards p) regs count 0 memory₀ ≡ storedAt (upwards p) regs left i memory)', mu_loop='left',
         loop_holds='(omega arith, omega arith, refl, refl)',
         loop_again='(omega arith, omega arith, length-set (@loop .memory) _ _ ∙ @loop .inv .2, @loop .inv .3 ∙ stored-step (upwards (@args .p)) _ _ _ _ (@loop-test .taken) _ refl)',
         returns='sym (@loop .inv .3 ∙ stored-none _ _ _ _ _ (@loop-test .left))'),
-    'rows/push_row': by(use=[OMEGA, NATURALS, LENGTHS, ROWS, BLOCKS + '{pushedFrom}', 'Rattle.rearrange.proofs.BlockLaws.{pushed-at}', HERE + '{stored-none, stored-step}'],
+    'rows/push_row': by(use=[OMEGA, NATURALS, LENGTHS, ROWS, BLOCKS + '{pushedFrom}', 'Rattle.rearrange.proofs.BlockLaws.{pushed-at}', HERE + '{downwards, stored-none, stored-step}'],
         Inv_loop='(i + left ≡ count) × (length memory ≡ length memory₀) × (storedAt (downwards p) (pushedFrom regs b count 0) count 0 memory₀ ≡ storedAt (downwards p) (pushedFrom regs b count 0) left i memory)', mu_loop='left',
         loop_holds='(omega arith, refl, refl)',
         loop_again='(omega arith, length-set (@loop .memory) _ _ ∙ @loop .inv .1, @loop .inv .2 ∙ stored-step (downwards (@args .p)) _ _ _ _ (@loop-test .taken) _ (@pushed-word .ensures ∙ sym (pushed-at _ _ _ 0 _ _ (omega arith) (omega arith))))',

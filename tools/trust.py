@@ -23,7 +23,7 @@ HEAD = re.compile(r' *(?:(?:unfoldable |abbrev )?(?:pub )?([^\s:()]+) :|(?:pub )
 
 # the reading order: parts, and their files; a crate alone stands for its structs and enums
 ORDER = {
-    'Numbers and words': 'choice/Select choice/Table whole/Whole whole/Normal word/Status word/Pair word/Compare word/Condition bits/Bits bits/Bytes bits/Logic '
+    'Numbers and words': 'choice/Select choice/Table whole/Whole whole/Normal word/Status word/Pair word/Compare word/Condition bits/Bits bits/Bytes '
     'fixed/Fixed divide divide/Divide shift shift/Shift float float/Float float/Words float_add/Add exact/Exact exact/Steps float_mul/Multiply float_div/Divide '
     'float_convert/Convert',
     'Pages': 'page page/Pages page/Spans',

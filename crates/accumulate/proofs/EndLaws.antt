@@ -33,7 +33,8 @@ use Rattle.isa.specs.Mil1750.{classOf, contextOf}
 use Rattle.gather.specs.declared.Gathered.{Gathered}
 use Rattle.gather.specs.Gathers.{FirstThree, gathered}
 use Rattle.gather.proofs.GatherLaws.{all-gathered, denied-gathered}
-use Rattle.accumulate.specs.Ended.{verdict, operandWords, Ended}
+use Rattle.rearrange.specs.Operation.{verdict, operandWords}
+use Rattle.accumulate.specs.Ended.{Ended}
 
 -- ---- registers and core after an outcome
 

@@ -9,8 +9,8 @@ use lib.Dec.{eqb, leb}
 use lib.ListN.{getD}
 use borrow.Author.Tests.{eq-eqb, eqb-true, leb-true}
 use Rattle.choice.specs.Select.{select}
-use Rattle.choice.specs.Table.{among, Every}
-use Rattle.choice.proofs.TestLaws.{both, either, passes, among-every}
+use Rattle.choice.specs.Table.{among}
+use Rattle.choice.proofs.TestLaws.{both, either, passes, Every, among-every}
 use Rattle.page.specs.declared.Span.{Span}
 use Rattle.decode.specs.Forms.{modeOf, operationOf, privilegedOperations}
 use Rattle.machine.specs.declared.Instruction.{Instruction}
@@ -20,7 +20,7 @@ use Rattle.machine.specs.Machine.{Effect, spanFrom}
 use Rattle.fixed.specs.Fixed.{Outcome}
 use Rattle.isa.specs.Fields.{register}
 use Rattle.isa.specs.Addressing.{inMemory, operand, doubleOperand, accumulator}
-use Rattle.isa.specs.Accesses.{wordsMoved, wordsOfInteger, wordsOfFloat, wordsRead, wordsWritten, readsOf, writesOf}
+use Rattle.isa.specs.Accesses.{wordsRead, wordsWritten, readsOf, writesOf}
 use Rattle.isa.specs.Effects.{Context, fixedOverflow, single, double, stored, jumped}
 use Rattle.isa.specs.Words.{registerPair, jumpOperation, loadOperation, storeOperation}
 use Rattle.isa.specs.Integers.{singleOutcome, doubleOutcome, integerOperation, logicalOperation}
@@ -32,11 +32,6 @@ use Rattle.accumulate.specs.Ways.{plain, intoSingle, intoDouble, target,
 
 -- ---- the way of an operation
 
--- no way is above 8
-pub way-most : (form : ℕ) → wayOf (operationOf form) ≤ 8
-unfolding wayOf
-way-most form = leb-true _ _ (passes (λ (k : ℕ). leb (wayOf k) 8) 256 refl (operationOf form) (omega arith))
-
 -- what is tested at every operation whose way is w holds of each of them
 of-way : (w : ℕ) (f : ℕ → Bool) → ((k : ℕ) → k < 256 → not (eqb (wayOf k) w) || f k ≡ true) → (k : ℕ) → k < 256 → wayOf k ≡ w → f k ≡ true
 of-way w f t k h e =
@@ -47,7 +42,7 @@ abbrev needs : ℕ → ℕ
 needs w = 128 * w + select w ((1, 1) ∷ (2, 2) ∷ (3, 4) ∷ (5, 8) ∷ (8, 3) ∷ []) 0
 
 needs-told : (k : ℕ) → k < 256 → eqb (wayOf k) 0 || eqb (needOf k) (needs (wayOf k)) ≡ true
-unfolding needOf exceptions wayOf wordsRead wordsMoved wordsOfFloat wordsOfInteger wordsWritten
+unfolding needOf exceptions wayOf wordsRead wordsWritten
 needs-told k h = passes (λ (j : ℕ). eqb (wayOf j) 0 || eqb (needOf j) (needs (wayOf j))) 256 refl k h
 
 -- the operation of each way above 5
@@ -131,7 +126,7 @@ abbrev unmarked : ℕ → Bool
 unmarked k = eqb (needOf k / 64 % 2) 0 && (eqb (needOf k / 16 % 2) 0 && eqb (needOf k / 32 % 2) 0)
 
 marks-told : (k : ℕ) → k < 256 → eqb (wayOf k) 0 || unmarked k ≡ true
-unfolding needOf exceptions wayOf wordsRead wordsMoved wordsOfFloat wordsOfInteger wordsWritten
+unfolding needOf exceptions wayOf wordsRead wordsWritten
 marks-told k h = passes (λ (j : ℕ). eqb (wayOf j) 0 || unmarked j) 256 refl k h
 
 module _ (n : Instruction) (h : 0 < wayOf (operationOf (n .form))) where

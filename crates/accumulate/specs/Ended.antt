@@ -3,31 +3,15 @@ use Prim.Native.Nat.{ℕ}
 use mathlib.Core.Path.{_≡_}
 use mathlib.Core.Bool.{Bool, true, false}
 use mathlib.Core.List.{List}
-use lib.ListN.{length}
-use Rattle.page.specs.declared.Access.the-variants.{Read, Write}
-use Rattle.page.specs.declared.Verdict.{Verdict}
 use Rattle.page.specs.declared.Verdict.the-variants.{Fault}
-use Rattle.page.specs.Spans.{checked, wordsOf}
 use Rattle.decode.specs.Forms.{operationOf}
 use Rattle.machine.specs.declared.Core.{Core}
 use Rattle.machine.specs.declared.Instruction.{Instruction}
 use Rattle.machine.specs.declared.Class.the-variants.{User}
-use Rattle.machine.specs.State.{Processor, keyOf, groupOf, updated}
-use Rattle.machine.specs.Instructions.{both}
-use Rattle.isa.specs.Accesses.{readsOf, writesOf}
+use Rattle.machine.specs.State.{Processor, updated}
 use Rattle.isa.specs.Mil1750.{classOf}
-use Rattle.rearrange.specs.Operation.{Finished}
+use Rattle.rearrange.specs.Operation.{verdict, Finished}
 use Rattle.accumulate.specs.declared.Ending.{Ending}
-
--- the verdict on all accesses of the instruction n, from the processor p, in the memory m through the page registers g
-abbrev pub verdict : Processor → List ℕ → List ℕ → Instruction → Verdict
-verdict p m g n =
-    both (checked (keyOf (p .core .sw)) (groupOf (p .core .sw)) g (length m) (readsOf (p .regs) n) Read)
-    (checked (keyOf (p .core .sw)) (groupOf (p .core .sw)) g (length m) (writesOf (p .regs) n) Write)
-
--- the words that it reads
-abbrev pub operandWords : Processor → List ℕ → List ℕ → Instruction → List ℕ
-operandWords p m g n = wordsOf (keyOf (p .core .sw)) (groupOf (p .core .sw)) g (length m) (readsOf (p .regs) n) m
 
 -- the operation is a user's; where all accesses are open, the processor q and the memory w are those after it; else the fault is that of the first
 -- refusal, and the processor and the memory are as they were

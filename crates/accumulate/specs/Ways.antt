@@ -3,10 +3,10 @@
 use Prim.Native.Nat.{ℕ}
 use mathlib.Core.Bool.{Bool, false, cond}
 use mathlib.Core.List.{List, [], _∷_}
+use lib.Bits.{bitAnd, bitOr}
 use lib.Dec.{eqb}
 use Rattle.choice.specs.Select.{select}
 use Rattle.word.specs.Status.{status}
-use Rattle.bits.specs.Logic.{inclusiveOr, logicalAnd}
 use Rattle.word.specs.Condition.{jumpTaken, branchTaken}
 use Rattle.fixed.specs.Fixed.{Outcome, sum, difference}
 use Rattle.decode.specs.Forms.{operationOf}
@@ -24,8 +24,8 @@ intoSingle operation a o =
     select operation
     ((55, sum 16 a o) ∷
     (63, difference 16 a o) ∷
-    (81, plain 16 (inclusiveOr a o)) ∷
-    (82, plain 16 (logicalAnd a o)) ∷
+    (81, plain 16 (bitOr a o)) ∷
+    (82, plain 16 (bitAnd a o)) ∷
     [])
     (plain 16 o)
 

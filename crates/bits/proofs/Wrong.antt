@@ -1,10 +1,11 @@
 -- Two wrong answers of each contract that other crates call, beside the right one, which the checker computes. Assumes nothing.
 use mathlib.Core.List.{List, [], _∷_}
+use Prim.Native.Nat.{_-_}
+use lib.Bits.{bitAnd, bitOr, bitXor}
 use lib.Dec.{T}
 use Rattle.choice.proofs.Rows.{Row, one, hold}
 use Rattle.bits.specs.Bits.{bit, setBit, resetBit, testBit}
 use Rattle.bits.specs.Bytes.{bytes, upperByte, lowerByte, loadUpper, loadLower, storeMasked, storeUpper, storeLower, exchange}
-use Rattle.bits.specs.Logic.{inclusiveOr, logicalAnd, exclusiveOr, logicalNand}
 
 pub rows : List Row
 rows =
@@ -27,16 +28,15 @@ rows =
     -- bytes::exchange_bytes: the four digits in reverse; no change
     ∷ one (exchange 0x1234) 0x3412 0x4321 0x1234
     -- logic::or: exclusive OR; AND
-    ∷ one (inclusiveOr 0x0F0F 0x3333) 0x3F3F 0x3C3C 0x0303
+    ∷ one (bitOr 0x0F0F 0x3333) 0x3F3F 0x3C3C 0x0303
     -- logic::and: OR; NAND
-    ∷ one (logicalAnd 0x0F0F 0x3333) 0x0303 0x3F3F 0xFCFC
+    ∷ one (bitAnd 0x0F0F 0x3333) 0x0303 0x3F3F 0xFCFC
     -- logic::xor: inclusive OR; the complement
-    ∷ one (exclusiveOr 0x0F0F 0x3333) 0x3C3C 0x3F3F 0xC3C3
+    ∷ one (bitXor 0x0F0F 0x3333) 0x3C3C 0x3F3F 0xC3C3
     -- logic::nand: AND; the complement of OR
-    ∷ one (logicalNand 0x0F0F 0x3333) 0xFCFC 0x0303 0xC0C0
+    ∷ one (65535 - bitAnd 0x0F0F 0x3333) 0xFCFC 0x0303 0xC0C0
     ∷ []
 
 pub rows-hold : T (hold rows)
 unfolding rows bit setBit resetBit testBit bytes upperByte lowerByte loadUpper loadLower storeMasked storeUpper storeLower exchange
-    inclusiveOr logicalAnd exclusiveOr logicalNand
 rows-hold = tt

@@ -12,8 +12,7 @@ use Rattle.machine.specs.Machine.{Supervised, done, refused}
 use Rattle.machine.proofs.Opened.{machinery}
 use Rattle.machine.proofs.Samples.{stateAt}
 use Rattle.isa.proofs.OpenInstructions.{instructions}
-use Rattle.isa.specs.Commands.{isTimer, timerCommand}
-use Rattle.command.specs.Outcome.{transferred}
+use Rattle.isa.specs.Commands.{isTimer, timerCommand, transferred}
 
 -- R1 holds 7
 abbrev s : State

@@ -3,17 +3,10 @@ use Prim.Native.Nat.{ℕ}
 use mathlib.Core.Path.{_≡_}
 use mathlib.Core.List.{List}
 use Rattle.machine.specs.declared.State.{State}
-use Rattle.machine.specs.declared.Instruction.{Instruction}
-use Rattle.machine.specs.State.{joined, withCore, withProcessor}
+use Rattle.machine.specs.State.{joined, withProcessor}
 use Rattle.machine.specs.Machine.{Supervised, done, refused}
-use Rattle.isa.specs.Fields.{fieldA, register}
-use Rattle.isa.specs.Commands.{resumed, commanded}
 use Rattle.command.specs.declared.Governed.{Governed}
 use Rattle.command.specs.declared.Governed.the-variants.{Done, Refused}
-
--- XIO alone, of the privileged operations: its command is its immediate operand, from the contents of RA
-abbrev pub transferred : State → List ℕ → List ℕ → Instruction → Supervised
-transferred s g o n = commanded (withCore s (resumed (s .core) n)) g o n (register (s .regs) (fieldA (n .first))) (n .address)
 
 -- from the state s, with the registers r, the page registers g and the ports o afterwards
 unfoldable pub governed : State → Governed → List ℕ → List ℕ → List ℕ → Supervised

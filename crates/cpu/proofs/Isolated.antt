@@ -6,11 +6,11 @@ use mathlib.Core.Option.{Option, none, some}
 use lib.ListN.{length, take}
 use Rattle.machine.specs.Machine.{Machine, machine}
 use Rattle.machine.specs.Timelines.{entryIn}
-use Rattle.machine.specs.Runs.{Run, runOf, made, items, consUnless, left, answers, afterRuns, total, firstEntry, beforeEntry}
+use Rattle.machine.specs.Runs.{Run, runOf, made, items, consUnless, left, answers, afterRuns, firstEntry, beforeEntry}
 use Rattle.machine.specs.Isolation.{Compared, Findings, Isolated, IsolatedApart}
 use Rattle.machine.proofs.MachineLaws.{became-machine}
-use Rattle.machine.proofs.RunLaws.{total-nil, total-cons}
-use Rattle.machine.proofs.Isolation.{isolation}
+use Rattle.machine.proofs.RunLaws.{total, total-nil, total-cons}
+use Rattle.machine.proofs.Isolation as machines
 use Rattle.isa.specs.Mil1750.{mil1750}
 use Rattle.cpu.proofs.run.run.Reads as reads
 use Rattle.cpu.specs.Calls.{Call, Ensured, resulting, EachEnsured, runsOf, replies, stepsMade, final, callsBefore, unentered, CallsFound, CallsIsolated, CallsIsolatedApart}
@@ -89,7 +89,7 @@ calls-found x y cs ds e f b h = record {
 -- calls with the same list of runs, each of which meets `run`'s contract
 pub isolated : (x y : Machine) (cs ds : List Call) → Compared x y → EachEnsured x cs → EachEnsured y ds → runsOf cs ≡ runsOf ds → CallsIsolated x y cs ds
 isolated x y cs ds c e f b =
-    let i : Isolated mil1750 (runsOf cs) x y = isolation mil1750 .runs (runsOf cs) x y c in
+    let i : Isolated mil1750 (runsOf cs) x y = machines.isolated mil1750 (runsOf cs) x y c in
     let r : beforeEntry mil1750 (runsOf cs) x ≡ beforeEntry mil1750 (runsOf ds) y = i .runs ∙ ap (λ (l : List Run). beforeEntry mil1750 l y) b in
     record {
       entry = i .entry ∙ ap (λ (l : List Run). firstEntry mil1750 l y) b;
@@ -105,6 +105,6 @@ isolated x y cs ds c e f b =
 pub isolated-apart : (x y : Machine) (cs ds : List Call) → Compared x y → EachEnsured x cs → EachEnsured y ds → stepsMade cs ≡ stepsMade ds → CallsIsolatedApart x y cs ds
 isolated-apart x y cs ds c e f n =
     let i : IsolatedApart mil1750 (runsOf cs) (runsOf ds) x y =
-    isolation mil1750 .equally-many (runsOf cs) (runsOf ds) x y c (sym (as-runs x cs e .steps-are) ∙ n ∙ as-runs y ds f .steps-are)
+    machines.isolated-equally mil1750 (runsOf cs) (runsOf ds) x y c (sym (as-runs x cs e .steps-are) ∙ n ∙ as-runs y ds f .steps-are)
     in
     record { entry = i .entry; found = λ h. rw (as-runs x cs e .final-is, as-runs y ds f .final-is) (i .found h) }

@@ -7,7 +7,7 @@ use lib.Dec.{T}
 use lib.IntN.{natAbs}
 use Rattle.choice.proofs.Rows.{Row, one, some, hold, flag}
 use Rattle.whole.specs.Whole.{signed, wrap, withSign}
-use Rattle.float.specs.Float.{overflowed, floatZero, given, plainFloat}
+use Rattle.float.specs.Float.{overflowed, floatZero, given}
 use Rattle.float.proofs.Wrong.{parts}
 use Rattle.exact.specs.Exact.{signsDiffer}
 use Rattle.exact.specs.Steps.{oneIf, signedBy, tail, ranged, upper}
@@ -32,7 +32,7 @@ rows =
     -- wider: not moved; moved by its own width
     ∷ one (0x40_0012 * 2 ^ (40 - 24)) 0x40_0012_0000 0x40_0012 0x4000_1200_0000
     -- upper: the last 24 bits; the first 16 bits
-    ∷ some (parts (upper (40 - 24) (plainFloat 0x40_0012_5678 130))) (0x40_0012 ∷ 130 ∷ 0 ∷ 0 ∷ []) (0x12_5678 ∷ 130 ∷ 0 ∷ 0 ∷ []) (0x4000 ∷ 130 ∷ 0 ∷ 0 ∷ [])
+    ∷ some (parts (upper (40 - 24) (record { mantissa = 0x40_0012_5678; exponent = 130; overflow = false; underflow = false }))) (0x40_0012 ∷ 130 ∷ 0 ∷ 0 ∷ []) (0x12_5678 ∷ 130 ∷ 0 ∷ 0 ∷ []) (0x4000 ∷ 130 ∷ 0 ∷ 0 ∷ [])
     ∷ []
 
 pub rows-hold : T (hold rows)

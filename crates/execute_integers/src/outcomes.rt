@@ -1,13 +1,15 @@
 // What the operation does, from the outcome of its arithmetic: whatever the registers and SW hold, it is the definition's effect.
 ghost use mathlib.Core.Path.{_≡_};
+ghost use mathlib.Core.Bool.{cond};
 ghost use mathlib.Core.List.{List};
 ghost use Prim.Native.Nat.{ℕ, _<_};
+ghost use lib.Dec.{eqb};
 ghost use Rattle.fixed.specs.Fixed.{Outcome, single, double};
+ghost use Rattle.divide.specs.Divide.{product, quotient};
 ghost use Rattle.isa.specs.Addressing.{doubleOperand};
 ghost use Rattle.isa.specs.Words.{registerPair};
 ghost use Rattle.isa.specs.Integers.{singleOutcome, doubleOutcome, memoryOutcome, quotientOutcome};
 ghost use Rattle.effect.specs.Work.{context, worked};
-ghost use Rattle.execute_integers.specs.Doubles.{arithmetic};
 use access::addressing::double_operand;
 use access::fields::pair_at;
 use divide::Quotient;
@@ -66,7 +68,7 @@ pub(crate) fn combine32(
     y: u16,
 ) -> Double
     requires { ⌜ a < 16 ⌝ }
-    ensures { λ r. ⌜ r ≡ double (arithmetic operation (registerPair (now (regs .entry)) a) (doubleOperand (now (regs .entry)) n x y)) ⌝ }
+    ensures { λ r. ⌜ r ≡ double (cond (eqb operation 73) (product 32) (quotient 32) (registerPair (now (regs .entry)) a) (doubleOperand (now (regs .entry)) n x y)) ⌝ }
 {
     let p = pair_at(regs, a);
     let q = double_operand(regs, n, x, y);

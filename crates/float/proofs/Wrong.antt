@@ -1,6 +1,6 @@
 -- Two wrong answers of each contract that other crates call, beside the right one, which the checker computes. Assumes nothing.
 use Prim.Native.Nat.{ℕ, _-_, _%_, _^_}
-use mathlib.Core.Bool.{true, not}
+use mathlib.Core.Bool.{true, false, not}
 use mathlib.Core.List.{List, [], _∷_}
 use lib.Dec.{T, eqb}
 use lib.IntN.{ℤ, natAbs, subℕ}
@@ -10,7 +10,7 @@ use Rattle.whole.specs.Whole.{signed, wrap}
 use Rattle.whole.specs.Normal.{normal, moves, distance}
 use Rattle.word.specs.Status.{status}
 use Rattle.float.specs.declared.Float.{Float}
-use Rattle.float.specs.Float.{isZero, floatZero, normalised, given, zeroFloat, extremeFloat, plainFloat}
+use Rattle.float.specs.Float.{isZero, floatZero, normalised, given}
 use Rattle.float.specs.Words.{mantissa24, mantissa40, exponentOf, firstWord, secondWord, thirdWord}
 
 -- the mantissa, the exponent, overflow and underflow
@@ -28,11 +28,11 @@ excess x = whole (subℕ x (2 ^ (24 - 1)))
 pub rows : List Row
 rows =
     -- zero: the exponent 80 instead of 0; no underflow
-    some (parts (zeroFloat true)) (0 ∷ 128 ∷ 0 ∷ 1 ∷ []) (0 ∷ 0 ∷ 0 ∷ 1 ∷ []) (0 ∷ 128 ∷ 0 ∷ 0 ∷ [])
+    some (parts (record { mantissa = 0; exponent = 128; overflow = false; underflow = true })) (0 ∷ 128 ∷ 0 ∷ 1 ∷ []) (0 ∷ 0 ∷ 0 ∷ 1 ∷ []) (0 ∷ 128 ∷ 0 ∷ 0 ∷ [])
     -- extreme: the exponent -1 instead of 7F; underflow
-    ∷ some (parts (extremeFloat 0x7F_FFFF)) (0x7F_FFFF ∷ 255 ∷ 1 ∷ 0 ∷ []) (0x7F_FFFF ∷ 127 ∷ 1 ∷ 0 ∷ []) (0x7F_FFFF ∷ 255 ∷ 0 ∷ 1 ∷ [])
+    ∷ some (parts (record { mantissa = 0x7F_FFFF; exponent = 255; overflow = true; underflow = false })) (0x7F_FFFF ∷ 255 ∷ 1 ∷ 0 ∷ []) (0x7F_FFFF ∷ 127 ∷ 1 ∷ 0 ∷ []) (0x7F_FFFF ∷ 255 ∷ 0 ∷ 1 ∷ [])
     -- plain: overflow; the exponent without the 128
-    ∷ some (parts (plainFloat 0x40_0000 129)) (0x40_0000 ∷ 129 ∷ 0 ∷ 0 ∷ []) (0x40_0000 ∷ 129 ∷ 1 ∷ 0 ∷ []) (0x40_0000 ∷ 1 ∷ 0 ∷ 0 ∷ [])
+    ∷ some (parts (record { mantissa = 0x40_0000; exponent = 129; overflow = false; underflow = false })) (0x40_0000 ∷ 129 ∷ 0 ∷ 0 ∷ []) (0x40_0000 ∷ 129 ∷ 1 ∷ 0 ∷ []) (0x40_0000 ∷ 1 ∷ 0 ∷ 0 ∷ [])
     -- gap: the exponents exchanged; the distance both ways
     ∷ some ((130 - 128) ∷ (128 - 130) ∷ []) (2 ∷ 0 ∷ []) (0 ∷ 2 ∷ []) (2 ∷ 2 ∷ [])
     -- mantissa::half: the weight of the bit after the sign; twice the weight of the sign

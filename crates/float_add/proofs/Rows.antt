@@ -9,7 +9,7 @@ use Rattle.whole.specs.Whole.{signed, wrap, holds}
 use Rattle.whole.specs.Normal.{normal, moves, distance}
 use Rattle.float.specs.Float.{Result, isZero, overflowed, floatZero, normalised}
 use Rattle.float.specs.Words.{mantissa24, mantissa40, exponentOf, firstWord, secondWord, thirdWord}
-use Rattle.float.specs.Written.{mantissaIn, exponentIn, written, pendingOf, gives}
+use Rattle.float.proofs.Written.{mantissaIn, exponentIn, written, pendingOf, gives}
 use Rattle.float_add.specs.Add.{common, aligned, finished, fitted, sumOf, differenceOf}
 
 abbrev Operation : Type 0

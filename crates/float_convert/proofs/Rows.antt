@@ -9,7 +9,7 @@ use Rattle.whole.specs.Whole.{signed, wrap}
 use Rattle.whole.specs.Normal.{normal, moves, distance}
 use Rattle.float.specs.Float.{Result, isZero, overflowed, floatZero, normalised}
 use Rattle.float.specs.Words.{mantissa24, mantissa40, exponentOf, firstWord, secondWord, thirdWord}
-use Rattle.float.specs.Written.{mantissaIn, exponentIn, written, pendingOf, gives}
+use Rattle.float.proofs.Written.{mantissaIn, exponentIn, written, pendingOf, gives}
 use Rattle.float_convert.specs.Convert.{kept, minusOne, oneHalf, same, negatedOf, absoluteOf, compared, comparedOf, tooLarge, integerPart, fixedOf, floatOf}
 
 pub data Row : Type 0 where

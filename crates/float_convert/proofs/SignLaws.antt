@@ -12,7 +12,8 @@ use borrow.Author.Tests.{eq-eqb, ne-eqb}
 use Rattle.whole.specs.Whole.{signed, wrap}
 use Rattle.whole.proofs.Diff.{order, diff-eq, diff-negate}
 use Rattle.whole.proofs.Laws.{half, signed-low, signed-high, signed-diff, wrap-diff, wrap-signed}
-use Rattle.float.specs.Float.{Is, overflowed, floatZero}
+use Rattle.float.specs.Float.{overflowed, floatZero}
+use Rattle.float.proofs.FloatLaws.{Is}
 use Rattle.float_convert.specs.Convert.{kept, minusOne, oneHalf, same, negatedOf, absoluteOf}
 
 module _ (w : ℕ) (p : 2 ≤ w) where

@@ -19,8 +19,7 @@ use Rattle.page.proofs.EachLaws.{put-length}
 use Rattle.machine.specs.Machine.{spanFrom}
 use Rattle.isa.specs.Effects.{three}
 use Rattle.gather.specs.declared.Gathered.{Gathered}
-use Rattle.gather.specs.Gathers.{FirstThree, complete, denied, gathered, withWord, fromThird, fromSecond, fromFirst}
-use Rattle.gather.specs.Stores.{storedOne}
+use Rattle.gather.specs.Gathers.{FirstThree, complete, denied, gathered, withWord, fromThird, fromSecond, storedOne}
 
 -- ---- words read
 
@@ -48,6 +47,11 @@ module _ (m : List ℕ) where
   all-three (At p) (At a) (Refused b) = refl
   all-three (At p) (Refused b) s = refl
   all-three (Refused b) r s = refl
+
+-- k words one by one, from the first on, at a
+unfoldable pub fromFirst : ℕ → ℕ → List ℕ → ℕ → List ℕ → ℕ → ℕ → Gathered
+fromFirst key group g size m k a =
+    cond (ltb 0 k) (withWord (gotAt m (lookup Read key group g size a)) (λ x. fromSecond key group g size m k x (wrapped (a + 1)))) (complete 0 0 0)
 
 -- one by one, or all checked and then read
 pub gathered-few : (key group : ℕ) (g : List ℕ) (size : ℕ) (m : List ℕ) (a k : ℕ) → k ≤ 3

@@ -1,17 +1,18 @@
--- The words that an operation reads, at most three, with the check of their accesses. Assumes nothing.
+-- The words that an operation reads, at most three, with the check of their accesses; and one store. Assumes nothing.
 use Prim.Native.Nat.{ℕ, _+_}
 use mathlib.Core.Path.{_≡_}
 use mathlib.Core.Bool.{true, false, cond}
 use mathlib.Core.List.{List}
 use lib.Dec.{ltb}
 use lib.ListN.{getD}
-use Rattle.page.specs.declared.Access.the-variants.{Read}
+use Rattle.page.specs.declared.Access.the-variants.{Read, Write}
+use Rattle.page.specs.declared.Span.{Span}
 use Rattle.page.specs.declared.Got.{Got}
 use Rattle.page.specs.declared.Got.the-variants.{Word, Missed}
 use Rattle.page.specs.declared.Verdict.{Verdict}
 use Rattle.page.specs.declared.Verdict.the-variants.{Clear, Fault}
 use Rattle.page.specs.Pages.{lookup}
-use Rattle.page.specs.Spans.{wrapped, gotAt}
+use Rattle.page.specs.Spans.{wrapped, gotAt, putAt, passed}
 use Rattle.gather.specs.declared.Gathered.{Gathered}
 
 -- x, y and z are the first three of the words
@@ -46,6 +47,6 @@ module _ (key group : ℕ) (g : List ℕ) (size : ℕ) (m : List ℕ) (k : ℕ) 
   unfoldable pub fromSecond : ℕ → ℕ → Gathered
   fromSecond x b = cond (ltb 1 k) (withWord (gotAt m (lookup Read key group g size b)) (λ y. fromThird x y (wrapped (b + 1)))) (complete x 0 0)
 
-  -- from the first on, at a
-  unfoldable pub fromFirst : ℕ → Gathered
-  fromFirst a = cond (ltb 0 k) (withWord (gotAt m (lookup Read key group g size a)) (λ x. fromSecond x (wrapped (a + 1)))) (complete 0 0 0)
+-- the memory m after v is stored as word number j of the span, at the address a, where there is one
+unfoldable pub storedOne : ℕ → ℕ → List ℕ → ℕ → Span → ℕ → ℕ → ℕ → List ℕ → List ℕ
+storedOne key group g size p j a v m = cond (ltb j (p .count)) (passed p j m (putAt m (lookup Write key group g size a) v)) m

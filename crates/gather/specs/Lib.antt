@@ -1,3 +1,2 @@
 -- The definitions of the words read, and of one store.
 pub mod Gathers
-pub mod Stores

@@ -7,10 +7,11 @@ use native.Mathlib.Omega.{arith}
 use native.Mathlib.Numerals.{add-one, sub-one}
 use lib.ListN.{length}
 use borrow.Author.Tests.{eq-eqb, ne-eqb, le-leb, lt-leb}
+use Rattle.machine.specs.Runs.{asked}
 use Rattle.image.specs.declared.Entry.{Entry}
 use Rattle.image.specs.declared.Loading.{Loading}
 use Rattle.image.specs.declared.Loading.the-variants.{Accepted, NoCount, ManyEntries, ShortTable, BadKind, BadRange, SharedWord, BadBodies}
-use Rattle.image.specs.Image.{countOf, entryAt, wordsBefore, tableEnd, bodyAt, numberOf, asked, unlessRefused, targetSize, endOf, share, sharesEarlier, entryAnswer, entriesAnswer, imageAnswer}
+use Rattle.image.specs.Image.{countOf, entryAt, wordsBefore, tableEnd, bodyAt, numberOf, unlessRefused, targetSize, endOf, share, sharesEarlier, entryAnswer, entriesAnswer, imageAnswer}
 
 -- ---- the words of the bodies
 

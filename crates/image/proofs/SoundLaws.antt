@@ -7,9 +7,10 @@ use native.Mathlib.Omega.{arith}
 use lib.Dec.{eqb, leb}
 use lib.ListN.{length}
 use borrow.Author.Tests.{eqb-true, eqb-false, leb-true}
+use Rattle.machine.specs.Runs.{asked}
 use Rattle.image.specs.declared.Entry.{Entry}
 use Rattle.image.specs.declared.Loading.{Loading}
-use Rattle.image.specs.Image.{countOf, entryAt, tableEnd, bodyAt, numberOf, asked, unlessRefused, targetSize, endOf, entryAnswer, entriesAnswer, imageAnswer, admission}
+use Rattle.image.specs.Image.{countOf, entryAt, tableEnd, bodyAt, numberOf, unlessRefused, targetSize, endOf, entryAnswer, entriesAnswer, imageAnswer, admission}
 use Rattle.image.proofs.QuestionLaws.{entries-step}
 
 asked-yes : (t : Bool) (out rest : Loading) → (numberOf out ≡ 0 → ⊥) → numberOf (asked t out rest) ≡ 0 → (t ≡ true) × (numberOf rest ≡ 0)

@@ -1,6 +1,6 @@
 -- Loading an image (Scope, "Image" and "Questions at the door"). An image b is the list of its bytes. Assumes nothing.
 use Prim.Native.Nat.{ℕ, zero, suc, _+_, _*_}
-use mathlib.Core.Bool.{Bool, true, false, not, cond, _&&_, _||_}
+use mathlib.Core.Bool.{Bool, false, not, cond, _&&_, _||_}
 use mathlib.Core.List.{List, [], _∷_}
 use mathlib.Core.Path.{_≡_}
 use lib.Dec.{eqb, leb, ltb}
@@ -10,7 +10,7 @@ use Rattle.machine.specs.declared.State.{State}
 use Rattle.machine.specs.declared.Core.{Core}
 use Rattle.machine.specs.State.{withRegs, withCore, withIc, withSw, withMk, withPi, withFt}
 use Rattle.machine.specs.Machine.{Machine, machine, Became}
-use Rattle.machine.specs.Runs.{wholePages}
+use Rattle.machine.specs.Runs.{wholePages, asked}
 use Rattle.image.specs.declared.Entry.{Entry}
 use Rattle.image.specs.declared.Loading.{Loading}
 use Rattle.image.specs.declared.Loading.the-variants.{Accepted, BadMemory, BadPages, BadPorts, NoCount, ManyEntries, ShortTable, BadKind, BadRange, SharedWord, BadBodies}
@@ -67,11 +67,6 @@ numberOf BadKind = 9
 numberOf BadRange = 10
 numberOf SharedWord = 11
 numberOf BadBodies = 12
-
--- a question: on to the rest, or out with the answer
-unfoldable pub asked : Bool → Loading → Loading → Loading
-asked true out rest = rest
-asked false out rest = out
 
 -- several questions: on to the rest unless one of them was answered by "no"
 unfoldable pub unlessRefused : Loading → Loading → Loading
@@ -159,13 +154,13 @@ module _ (b : List ℕ) where
 
   -- ---- loading
 
-  -- reset, then the bodies
-  unfoldable pub loaded : Machine → Machine
-  loaded x = withBodies (countOf b) 0 (resetMachine (length (x .memory)) (length (x .pages)) (length (x .ports)))
+  -- reset, by the numbers of words, page registers and ports, then the bodies
+  unfoldable pub loaded : ℕ → ℕ → ℕ → Machine
+  loaded memory pages ports = withBodies (countOf b) 0 (resetMachine memory pages ports)
 
   -- what loading leaves: a refusal changes nothing
   unfoldable pub afterLoading : Machine → Machine
-  afterLoading x = cond (eqb (numberOf (answerOf b x)) 0) (loaded x) x
+  afterLoading x = cond (eqb (numberOf (answerOf b x)) 0) (loaded (length (x .memory)) (length (x .pages)) (length (x .ports))) x
 
   -- all that loading on the machine x hands back and leaves
   pub record Outcome (x : Machine) (answer : Loading) (s : State) (memory pages ports : List ℕ) : Type 0 where

@@ -31,7 +31,7 @@ use Rattle.machine.specs.Instructions.{affect, View, view, permitted, readyAt, 
 use Rattle.machine.specs.Step.{affected, stored, perform}
 use Rattle.isa.specs.Fields.{fieldA, register}
 use Rattle.isa.specs.Addressing.{inMemory}
-use Rattle.isa.specs.Accesses.{wordsMoved, wordsOfInteger, wordsOfFloat, wordsRead, wordsWritten, atOperand, readsOf, writesOf}
+use Rattle.isa.specs.Accesses.{wordsRead, wordsWritten, atOperand, readsOf, writesOf}
 use Rattle.isa.specs.Effects.{Context}
 use Rattle.isa.specs.Execute.{ordinary, executed}
 use Rattle.isa.specs.Mil1750.{classOf, contextOf, mil1750}
@@ -126,7 +126,7 @@ differs operation k h i = apart operation k (λ e. false≢true (sym h ∙ e ∙
 
 -- the weight of those on blocks, computed at every operation
 block-told : (k : ℕ) → k < 256 → needOf k / 64 % 2 ≡ cond (isBlock k) 1 0
-unfolding needOf exceptions wayOf wordsRead wordsMoved wordsOfFloat wordsOfInteger wordsWritten isBlock
+unfolding needOf exceptions wayOf wordsRead wordsWritten isBlock
 block-told k h = eqb-true _ _ (tests.passes (λ (j : ℕ). eqb (needOf j / 64 % 2) (cond (isBlock j) 1 0)) 256 refl k h)
 
 pub block-need : (form : ℕ) → isBlock (operationOf form) ≡ true → needOf (operationOf form) / 64 % 2 ≡ 1

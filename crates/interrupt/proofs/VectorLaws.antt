@@ -11,7 +11,16 @@ use Rattle.page.specs.Pages.{physical, through, lookup}
 use Rattle.page.specs.Spans.{wrapped, gotAt, wordOf}
 use Rattle.page.proofs.NearLaws.{lookup-before}
 use Rattle.page.proofs.ReachLaws.{located-inside}
-use Rattle.machine.specs.Entries.{faultOf, gotZero, vectorOf}
+use Rattle.machine.specs.declared.Vector.{Vector}
+use Rattle.interrupt.specs.declared.Found.the-variants.{All, NotAll}
+use Rattle.machine.specs.Entries.{faultOf, gotZero, vectorAt, vectorOf}
+
+-- what a search found
+pub all-found : (v w u : Vector) → All w ≡ All v → u ≡ w → v ≡ u
+all-found v w u e h = cc
+
+pub not-found : {A : Type 0} (v : Vector) → NotAll ≡ All v → A
+not-found v e = let z : _≡_ {A = ℕ} 0 1 = cc in absurd (omega arith)
 
 -- words of address state 0, with key 0
 module _ (m g : List ℕ) where
@@ -50,10 +59,12 @@ module _ (m g : List ℕ) where
   -- the service pointer was found at p, and the last word, at end, at q
   pub vector-together : (n p end q : ℕ) → n < 16 → Found (33 + 2 * n) p → end ≡ (getD m p 0 + 2) % 65536 → 2 ≤ end % 4096 → Found end q
       → vectorOf m g n ≡ record { link = getD m (p - 1) 0; mk = getD m (q - 2) 0; sw = getD m (q - 1) 0; ic = getD m q 0; fault = 0 }
-  unfolding vectorOf wordOf faultOf wrapped
+  unfolding vectorOf vectorAt wordOf faultOf wrapped
   vector-together n p end q b e ends h l =
       let same : Found ((getD m p 0 + 2) % 65536) q = rw (← ends) l in
+      let next : 32 + 2 * n + 1 ≡ 33 + 2 * n = omega arith in
       rw (
+        next,
         got (33 + 2 * n) p e,
         got-before (33 + 2 * n) p 1 (omega arith) e 1 (omega arith) (32 + 2 * n) (omega arith),
         got-before end q 2 h l 2 (omega arith) (getD m p 0) (omega arith),

@@ -3,8 +3,8 @@
 ghost use mathlib.Core.Path.{_≡_};
 ghost use Prim.Native.Nat.{_<_};
 ghost use lib.ListN.{length};
-ghost use Rattle.machine.specs.Entries.{faultOf, gotZero, vectorOf, callOf};
-ghost use Rattle.interrupt.specs.Founds.{foundOr};
+ghost use Rattle.machine.specs.declared.Vector.{Vector};
+ghost use Rattle.machine.specs.Entries.{faultOf, gotZero, vectorAt, vectorOf, callOf};
 use crate::Found;
 use machine::Vector;
 use page::Access;
@@ -33,17 +33,17 @@ fn read_zero(memory: &[u16], pages: &[u16], a: u16) -> Got
     read_word(Access::Read, 0, 0, memory, pages, a)
 }
 
-// Interrupt n, each word looked up.
-fn vector_each(memory: &[u16], pages: &[u16], n: u16) -> Vector
-    requires { ⌜ (length (now pages) ≡ 512) × (n < 16) ⌝ }
-    ensures { λ r. ⌜ r ≡ vectorOf (now (memory .entry)) (now (pages .entry)) n ⌝ }
+// The vector whose linkage pointer is at a, with IC k words after MK, each word looked up.
+fn vector_each(memory: &[u16], pages: &[u16], a: u16, k: u16) -> Vector
+    requires { ⌜ (length (now pages) ≡ 512) × (a < 65535) ⌝ }
+    ensures { λ r. ⌜ r ≡ vectorAt (now (memory .entry)) (now (pages .entry)) a k ⌝ }
 {
-    let link = read_zero(memory, pages, 32 + 2 * n);
-    let service = read_zero(memory, pages, 33 + 2 * n);
+    let link = read_zero(memory, pages, a);
+    let service = read_zero(memory, pages, a + 1);
     let base = word_of(service);
     let mk = read_zero(memory, pages, base);
     let sw = read_zero(memory, pages, wrapping_add_u16(base, 1));
-    let ic = read_zero(memory, pages, wrapping_add_u16(base, 2));
+    let ic = read_zero(memory, pages, wrapping_add_u16(base, k));
     let pointers = fault_of(link) | fault_of(service);
     Vector {
         link: word_of(link),
@@ -58,7 +58,7 @@ fn vector_each(memory: &[u16], pages: &[u16], n: u16) -> Vector
 // before IC. Open, for speed, is whether all are found here: where they are, they are the vector; where not, each word is looked up.
 fn vector_found(memory: &[u16], pages: &[u16], n: u16) -> Found
     requires { ⌜ (length (now pages) ≡ 512) × (n < 16) ⌝ }
-    ensures { λ r. ⌜ foundOr r (vectorOf (now (memory .entry)) (now (pages .entry)) n) ≡ vectorOf (now (memory .entry)) (now (pages .entry)) n ⌝ }
+    ensures { λ r. ⌜ ((v : Vector) → r ≡ Found.All v → v ≡ vectorOf (now (memory .entry)) (now (pages .entry)) n) ⌝ }
 {
     let service = look_up(Access::Read, 0, 0, pages, memory.len(), 33 + 2 * n);
     match service {
@@ -98,27 +98,14 @@ pub fn vector(memory: &[u16], pages: &[u16], n: u16) -> Vector
     let found = vector_found(memory, pages, n);
     match found {
         Found::All(v) => v,
-        Found::NotAll => vector_each(memory, pages, n),
+        Found::NotAll => vector_each(memory, pages, 32 + 2 * n, 2),
     }
 }
 
-// BEX n, by the vector of interrupt 5 in the order of 5.30.
+// BEX n, by the vector of interrupt 5 with the nth IC (5.30).
 pub fn call_vector(memory: &[u16], pages: &[u16], n: u16) -> Vector
     requires { ⌜ (length (now pages) ≡ 512) × (n < 16) ⌝ }
     ensures { λ r. ⌜ r ≡ callOf (now (memory .entry)) (now (pages .entry)) n ⌝ }
 {
-    let service = read_zero(memory, pages, 43);
-    let base = word_of(service);
-    let mk = read_zero(memory, pages, base);
-    let sw = read_zero(memory, pages, wrapping_add_u16(base, 1));
-    let ic = read_zero(memory, pages, wrapping_add_u16(base, 2 + n));
-    let link = read_zero(memory, pages, 42);
-    let words = fault_of(service) | fault_of(mk) | fault_of(sw) | fault_of(ic);
-    Vector {
-        link: word_of(link),
-        mk: word_of(mk),
-        sw: word_of(sw),
-        ic: word_of(ic),
-        fault: words | fault_of(link),
-    }
+    vector_each(memory, pages, 42, 2 + n)
 }

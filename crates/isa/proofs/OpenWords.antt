@@ -7,11 +7,10 @@ use Rattle.word.specs.Pair.{pair, highWord, lowWord}
 use Rattle.word.specs.Status.{status, withCarry}
 use Rattle.bits.specs.Bits.{bit, setBit, resetBit, testBit}
 use Rattle.bits.specs.Bytes.{bytes, upperByte, lowerByte, loadUpper, loadLower, storeMasked, storeUpper, storeLower, exchange}
-use Rattle.bits.specs.Logic.{inclusiveOr, logicalAnd, exclusiveOr, logicalNand}
 use Rattle.fixed.specs.Fixed.{single, double, outcomeOf, sum, absolute, difference, negated}
 use Rattle.divide.specs.Divide.{product, longProduct, division, divided, longDivided, quotient}
-use Rattle.shift.specs.Shift.{countOf, moved, shiftedBy, rotateRight}
+use Rattle.shift.specs.Shift.{countOf, moved, shiftedBy}
 
 unfoldable pub words : Unit {0}
-unfolding normal moves distance signed wrap holds withSign floorDiv shiftLeft shiftRight shiftArith rotate signChanges below compared limited jumpTaken shows branchTaken pair highWord lowWord status withCarry bit setBit resetBit testBit bytes upperByte lowerByte loadUpper loadLower storeMasked storeUpper storeLower exchange inclusiveOr logicalAnd exclusiveOr logicalNand single double outcomeOf sum absolute difference negated product longProduct division divided longDivided quotient countOf moved shiftedBy rotateRight
+unfolding normal moves distance signed wrap holds withSign floorDiv shiftLeft shiftRight shiftArith rotate signChanges below compared limited jumpTaken shows branchTaken pair highWord lowWord status withCarry bit setBit resetBit testBit bytes upperByte lowerByte loadUpper loadLower storeMasked storeUpper storeLower exchange single double outcomeOf sum absolute difference negated product longProduct division divided longDivided quotient countOf moved shiftedBy
 words = tt

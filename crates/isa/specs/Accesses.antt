@@ -3,7 +3,7 @@ use Prim.Native.Nat.{ℕ, _+_, _-_}
 use mathlib.Core.Bool.{cond}
 use mathlib.Core.List.{List, [], _∷_}
 use lib.Dec.{eqb}
-use Rattle.choice.specs.Select.{select, upTo}
+use Rattle.choice.specs.Select.{select}
 use Rattle.page.specs.declared.Span.{Span}
 use Rattle.page.specs.Spans.{wrapped}
 use Rattle.decode.specs.Forms.{modeOf, operationOf}
@@ -12,39 +12,21 @@ use Rattle.machine.specs.Machine.{spanFrom}
 use Rattle.isa.specs.Fields.{fieldA, fieldB, register, registersFrom}
 use Rattle.isa.specs.Addressing.{inMemory}
 
--- how many words an operation on bits, of a jump, load or store reads at its derived address
-unfoldable pub wordsMoved : ℕ → ℕ
-wordsMoved operation =
+-- how many words an operation reads at its derived address
+unfoldable pub wordsRead : ℕ → ℕ
+wordsRead operation =
     select operation
     ((3, 1) ∷ (4, 1) ∷ (5, 1) ∷ (6, 1) ∷
     (35, 3) ∷ (38, 1) ∷ (39, 2) ∷ (41, 3) ∷ (42, 1) ∷ (43, 1) ∷
     (49, 1) ∷ (52, 1) ∷ (53, 1) ∷
-    [])
-    0
-
--- how many an operation of integer arithmetic, logic and comparison reads
-unfoldable pub wordsOfInteger : ℕ → ℕ
-wordsOfInteger operation =
-    select operation
-    ((55, 1) ∷ (56, 1) ∷ (59, 2) ∷
-    (63, 1) ∷ (64, 1) ∷ (67, 2) ∷
-    (71, 1) ∷ (72, 1) ∷ (73, 2) ∷
-    (76, 1) ∷ (77, 1) ∷ (78, 2) ∷
+    (55, 1) ∷ (56, 1) ∷ (59, 2) ∷ (60, 2) ∷ (61, 3) ∷
+    (63, 1) ∷ (64, 1) ∷ (67, 2) ∷ (68, 2) ∷ (69, 3) ∷
+    (71, 1) ∷ (72, 1) ∷ (73, 2) ∷ (74, 2) ∷ (75, 3) ∷
+    (76, 1) ∷ (77, 1) ∷ (78, 2) ∷ (79, 2) ∷ (80, 3) ∷
     (81, 1) ∷ (82, 1) ∷ (83, 1) ∷ (84, 1) ∷
-    (91, 1) ∷ (92, 2) ∷ (93, 2) ∷
+    (91, 1) ∷ (92, 2) ∷ (93, 2) ∷ (94, 2) ∷ (95, 3) ∷
     [])
     0
-
--- how many a floating point operation reads
-unfoldable pub wordsOfFloat : ℕ → ℕ
-wordsOfFloat operation =
-    select operation
-    ((60, 2) ∷ (61, 3) ∷ (68, 2) ∷ (69, 3) ∷ (74, 2) ∷ (75, 3) ∷ (79, 2) ∷ (80, 3) ∷ (94, 2) ∷ (95, 3) ∷ [])
-    (wordsOfInteger operation)
-
--- how many words an operation reads at its derived address
-unfoldable pub wordsRead : ℕ → ℕ
-wordsRead operation = upTo operation ((54, wordsMoved operation) ∷ []) (wordsOfFloat operation)
 
 -- how many words an operation writes at its derived address
 unfoldable pub wordsWritten : ℕ → ℕ

@@ -101,13 +101,17 @@ commanded s g o n ra command =
     [])
     other
 
+-- XIO: its command is its immediate operand, from the contents of RA
+abbrev pub transferred : State → List ℕ → List ℕ → Instruction → Supervised
+transferred s g o n = commanded (withCore s (resumed (s .core) n)) g o n (register (s .regs) (fieldA (n .first))) (n .address)
+
 -- LST, LSTI: MK, SW and IC get the three words read
 unfoldable pub statusLoaded : Core → ℕ → ℕ → ℕ → Core
 statusLoaded c x y z = withIc (withSw (withMk c x) y) z
 
--- 5.35 is LST; any other privileged operation is XIO, whose command is its immediate operand
+-- 5.35 is LST; any other privileged operation is XIO
 unfoldable pub supervisedBy : State → List ℕ → List ℕ → Instruction → List ℕ → Supervised
 supervisedBy s g o n ws =
     cond (eqb (operationOf (n .form)) 35)
     (becomes g o (withCore s (statusLoaded (s .core) (getD ws 0 0) (getD ws 1 0) (getD ws 2 0))))
-    (commanded (withCore s (resumed (s .core) n)) g o n (register (s .regs) (fieldA (n .first))) (n .address))
+    (transferred s g o n)

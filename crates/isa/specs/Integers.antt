@@ -1,11 +1,11 @@
 -- Integer arithmetic, logic and comparison (5.55 to 5.93 without the floats): what each does, by its paragraph.
 -- v is what the operation sees, n the instruction, x and y the words read. Assumes nothing.
-use Prim.Native.Nat.{ℕ, _+_}
+use Prim.Native.Nat.{ℕ, _+_, _-_}
 use mathlib.Core.List.{[], _∷_}
+use lib.Bits.{bitAnd, bitOr, bitXor}
 use Rattle.choice.specs.Select.{select}
 use Rattle.word.specs.Pair.{highWord, lowWord}
 use Rattle.bits.specs.Bytes.{exchange}
-use Rattle.bits.specs.Logic.{inclusiveOr, logicalAnd, exclusiveOr, logicalNand}
 use Rattle.word.specs.Compare.{compared, limited}
 use Rattle.divide.specs.declared.Quotient.{Quotient}
 use Rattle.fixed.specs.Fixed.{Outcome, sum, difference, negated, absolute}
@@ -72,10 +72,10 @@ logicalOperation v n x y operation =
     let rc = register (v .regs) acc in
     let o = operand (v .regs) n x in
     select operation
-    ((81, single v n acc (inclusiveOr rc o)) ∷
-    (82, single v n acc (logicalAnd rc o)) ∷
-    (83, single v n a (exclusiveOr ra o)) ∷
-    (84, single v n a (logicalNand ra o)) ∷
+    ((81, single v n acc (bitOr rc o)) ∷
+    (82, single v n acc (bitAnd rc o)) ∷
+    (83, single v n a (bitXor ra o)) ∷
+    (84, single v n a (65535 - bitAnd ra o)) ∷
     (89, single v n a (exchange ra)) ∷
     (91, tested v n (compared 16 rc o)) ∷
     (92, tested v n (limited 16 ra x y)) ∷

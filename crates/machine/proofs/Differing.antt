@@ -8,8 +8,7 @@ use native.Mathlib.Omega.{arith}
 use lib.Dec.{T, T-not, eqb}
 use lib.ListN.{getD, set, replicate, length-replicate, List·getD-append}
 use borrow.Author.Tests.{eqb-true}
-use Rattle.choice.specs.Table.{each}
-use Rattle.choice.proofs.TestLaws.{either, passes}
+use Rattle.choice.proofs.TestLaws.{each, either, passes}
 use Rattle.page.specs.declared.Access.{Access}
 use Rattle.page.specs.declared.Access.the-variants.{Fetch, Read}
 use Rattle.page.specs.Pages.{lockOf, frameOf, registerAt, admits, May, MaySee}

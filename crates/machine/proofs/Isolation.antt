@@ -5,11 +5,11 @@ use mathlib.Core.List.{List, [], _∷_}
 use mathlib.Core.Option.{Option, none, some}
 use lib.ListN.{replicate}
 use Rattle.machine.specs.Machine.{Machine, Isa}
-use Rattle.machine.specs.Timelines.{Item, stepped, stepsIn, stepsLater, entryIn}
-use Rattle.machine.specs.Runs.{Run, answerOf, stepsOf, made, items, consUnless, left, answers, afterRuns, timeline, total, firstEntry, beforeEntry}
-use Rattle.machine.specs.Isolation.{Alike, Compared, Found, Findings, Isolated, IsolatedApart, Isolates}
-use Rattle.machine.proofs.TimelineLaws.{firstOr, as-many}
-use Rattle.machine.proofs.RunLaws.{after-play, entry-cons, before-all}
+use Rattle.machine.specs.Timelines.{Item, stepped, stepsLater, entryIn}
+use Rattle.machine.specs.Runs.{Run, answerOf, stepsOf, made, items, consUnless, left, answers, afterRuns, timeline, firstEntry, beforeEntry}
+use Rattle.machine.specs.Isolation.{Alike, Compared, Found, Findings, Isolated, IsolatedApart}
+use Rattle.machine.proofs.TimelineLaws.{firstOr, stepsIn, as-many}
+use Rattle.machine.proofs.RunLaws.{after-play, total, entry-cons, before-all}
 use Rattle.machine.proofs.StepLaws.{found-start, compared-again, found-found, Played, played}
 
 -- ---- one run of both
@@ -100,10 +100,7 @@ isolated-apart isa rs qs x y c t =
       found = λ h. rw (after-play isa rs x, after-play isa qs y, ← t) (p .found h);
     }
 
--- that make equally many steps
+-- "Lists of unequal budgets that make equally many steps leave the same findings, answers aside": their timelines are equal
 pub isolated-equally : (isa : Isa) (rs qs : List Run) (x y : Machine) → Compared x y → total isa rs x ≡ total isa qs y → IsolatedApart isa rs qs x y
 unfolding total
 isolated-equally isa rs qs x y c n = isolated-apart isa rs qs x y c (as-many (timeline isa rs x) (timeline isa qs y) n)
-
-pub isolation : (isa : Isa) → Isolates isa
-isolation isa = record { runs = isolated isa; apart = isolated-apart isa; equally-many = isolated-equally isa }

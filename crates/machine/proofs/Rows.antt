@@ -6,7 +6,7 @@ use mathlib.Core.List.{List, [], _∷_, _++_, map}
 use mathlib.Core.Option.{Option, none, some}
 use lib.Dec.{T, eqb, ltb}
 use lib.ListN.{getD, set, replicate}
-use Rattle.choice.proofs.Rows.{equal, flag, allOf}
+use Rattle.choice.proofs.Rows.{equal, allOf}
 use Rattle.page.specs.declared.Span.{Span}
 use Rattle.page.specs.Spans.{sixteenZeros}
 use Rattle.machine.specs.declared.State.{State}
@@ -19,8 +19,10 @@ use Rattle.machine.specs.Machine.{Machine, machine, Isa, Effect, Supervi
 use Rattle.decode.specs.Forms.{operationOf}
 use Rattle.machine.specs.Entries.{chosen}
 use Rattle.machine.specs.Step.{ticked, step}
-use Rattle.machine.specs.Runs.{runOf, numberOf, admission, answers, afterRuns, total, firstEntry, beforeEntry}
+use Rattle.machine.specs.Runs.{runOf, numberOf, admission, answers, afterRuns, firstEntry, beforeEntry}
 use Rattle.machine.proofs.Opened.{machinery}
+use Rattle.machine.proofs.TimelineLaws.{stepsIn}
+use Rattle.machine.proofs.RunLaws.{total}
 use Rattle.machine.proofs.Samples.{coreParts, clockParts}
 
 -- ---- a small instruction set: a word is its own form, and the second word is the address
@@ -101,7 +103,7 @@ pub data Row : Type 0 where
   running : State → ℕ → List ℕ → List ℕ → List ℕ → Row
 
 unfoldable pub right : Row → Bool
-unfolding machinery
+unfolding machinery total stepsIn
 right (choice pi mk enabled hold n) = eqb (chosen (state 0 0 mk pi enabled hold .core)) n
 right (ticking pi ta tb taon tbon count r) =
     let s = ticked (timed pi ta tb taon tbon count) in equal (s .core .pi ∷ s .clock .ta ∷ s .clock .tb ∷ s .clock .count ∷ []) r

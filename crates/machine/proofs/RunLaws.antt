@@ -2,14 +2,14 @@
 use Prim.Native.Nat.{ℕ, suc, _+_}
 use mathlib.Core.Path.{_≡_, refl, sym, ap, ap₂, _∙_}
 use mathlib.Core.Logic.{_≢_}
-use mathlib.Core.List.{List, [], _∷_, _++_}
+use mathlib.Core.List.{List, [], _∷_}
 use mathlib.Core.Option.{Option, none, some}
 use borrow.Author.Tests.{ne-eqb}
 use Rattle.machine.specs.Machine.{Machine, Isa}
 use Rattle.machine.specs.Step.{step}
-use Rattle.machine.specs.Timelines.{stepsIn, stepsLater, afterItem, play, entryIn}
-use Rattle.machine.specs.Runs.{Run, numberOf, answerOf, stepsOf, made, items, consUnless, steps, left, afterRuns, timeline, total, firstEntry, beforeEntry}
-use Rattle.machine.proofs.TimelineLaws.{some≢none, later-none, firstOr, play-append, steps-append, entry-append, steps-repeated}
+use Rattle.machine.specs.Timelines.{stepsLater, play, entryIn}
+use Rattle.machine.specs.Runs.{Run, numberOf, answerOf, stepsOf, made, items, consUnless, steps, left, afterRuns, timeline, firstEntry, beforeEntry}
+use Rattle.machine.proofs.TimelineLaws.{some≢none, later-none, firstOr, play-append, stepsIn, steps-append, entry-append, steps-repeated}
 
 -- ---- one run
 
@@ -28,7 +28,7 @@ unfolding steps play
 steps-zero isa x = refl
 
 pub steps-suc : (isa : Isa) (n : ℕ) (x : Machine) → steps isa (suc n) x ≡ steps isa n (step isa x)
-unfolding steps play afterItem
+unfolding steps play
 steps-suc isa n x = refl
 
 -- ---- a list of runs is its timeline
@@ -38,7 +38,10 @@ unfolding afterRuns timeline left play
 after-play isa [] x = refl
 after-play isa (r ∷ rs) x = after-play isa rs (left isa x r) ∙ sym (play-append isa (items x r) (timeline isa rs (left isa x r)) x)
 
--- it makes as many steps as its runs
+-- how many steps it makes: as many as its runs
+unfoldable pub total : Isa → List Run → Machine → ℕ
+total isa rs x = stepsIn (timeline isa rs x)
+
 pub total-nil : (isa : Isa) (x : Machine) → total isa [] x ≡ 0
 unfolding total timeline stepsIn
 total-nil isa x = refl
@@ -48,10 +51,6 @@ unfolding total timeline items
 total-cons isa r rs x = steps-append (items x r) (timeline isa rs (left isa x r)) ∙ ap₂ _+_ (steps-repeated (made x r)) refl
 
 -- the first entry is in the first run, or among the others
-pub entry-nil : (isa : Isa) (x : Machine) → firstEntry isa [] x ≡ none
-unfolding firstEntry timeline entryIn
-entry-nil isa x = refl
-
 pub entry-cons : (isa : Isa) (r : Run) (rs : List Run) (x : Machine)
     → firstEntry isa (r ∷ rs) x ≡ firstOr (entryIn isa (items x r) x) (stepsLater (stepsIn (items x r)) (firstEntry isa rs (left isa x r)))
 unfolding firstEntry timeline left
@@ -69,35 +68,3 @@ before-all isa (r ∷ rs) x h = go (entryIn isa (items x r) x) (before-all isa r
         → firstOr k (stepsLater (stepsIn (items x r)) (firstEntry isa rs (left isa x r))) ≡ none → consUnless k r (beforeEntry isa rs (left isa x r)) ≡ r ∷ rs
     go none ih e = ap (r ∷_) (ih (later-none _ _ e))
     go (some k) ih e = some≢none k e
-
--- and otherwise a first part of the list without an entry, with an entry in the run after it
-pub record Split (isa : Isa) (rs : List Run) (x : Machine) : Type 0 where
-  pub next : Run
-  pub rest : List Run
-  pub split : rs ≡ beforeEntry isa rs x ++ (next ∷ rest)
-  pub clear : firstEntry isa (beforeEntry isa rs x) x ≡ none
-  pub inside : entryIn isa (items (afterRuns isa (beforeEntry isa rs x) x) next) (afterRuns isa (beforeEntry isa rs x) x) ≢ none
-
-split-cons : (isa : Isa) (r : Run) (rs : List Run) (x : Machine) → (firstEntry isa rs (left isa x r) ≢ none → Split isa rs (left isa x r))
-    → (k : Option ℕ) → entryIn isa (items x r) x ≡ k → firstEntry isa (r ∷ rs) x ≢ none → Split isa (r ∷ rs) x
-unfolding beforeEntry firstOr consUnless afterRuns stepsLater
-split-cons isa r rs x ih (some k) e h = record {
-  next = r;
-  rest = rs;
-  split = rw e refl;
-  clear = rw e (entry-nil isa x);
-  inside = rw (e, afterRuns, e) (λ z. some≢none k z);
-}
-split-cons isa r rs x ih none e h =
-    let s : Split isa rs (left isa x r) = ih (λ z. h (rw (entry-cons isa r rs x, e, z) refl)) in
-    record {
-      next = s .next;
-      rest = s .rest;
-      split = rw e (ap (r ∷_) (s .split));
-      clear = rw (e, entry-cons isa r (beforeEntry isa rs (left isa x r)) x, e, s .clear) refl;
-      inside = rw (e, afterRuns) (s .inside);
-    }
-
-pub before-split : (isa : Isa) (rs : List Run) (x : Machine) → firstEntry isa rs x ≢ none → Split isa rs x
-before-split isa [] x h = absurd (h (entry-nil isa x))
-before-split isa (r ∷ rs) x h = split-cons isa r rs x (before-split isa rs (left isa x r)) _ refl h

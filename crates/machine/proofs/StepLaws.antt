@@ -17,7 +17,7 @@ use Rattle.machine.specs.Machine.{Machine, machine, Isa}
 use Rattle.machine.specs.Instructions.{Action, enter, call, fail, affect, govern, View}
 use Rattle.machine.specs.Entries.{chosen}
 use Rattle.machine.specs.Step.{released, begunFrom, faulted, affected, stored, perform, ticked, tick, isEntry, begun, action, step}
-use Rattle.machine.specs.Timelines.{Item, stepped, hereOr, stepsLater, afterItem, play, entryIn}
+use Rattle.machine.specs.Timelines.{Item, stepped, stepsLater, play, entryIn}
 use Rattle.machine.specs.Isolation.{Alike, key, group, Compared, Found}
 use Rattle.page.proofs.ReachLaws.{written-barred}
 use Rattle.machine.proofs.SameLaws.{Same, written-same}
@@ -144,7 +144,7 @@ pub record Played (isa : Isa) (t : List Item) (x y : Machine) : Type 0 where
 -- the first item is a step, and known: an entry, or one that leads to such a pair again
 played-step : (isa : Isa) (t : List Item) (x y : Machine) → Compared x y → ((x' y' : Machine) → Compared x' y' → Played isa t x' y')
     → (b : Bool) → isEntry (action isa x) ≡ b → Played isa (stepped ∷ t) x y
-unfolding play afterItem entryIn hereOr
+unfolding play entryIn
 played-step isa t x y c ih true e = record {
   entry = rw (← action-same isa x y c, e) refl;
   found = λ h. some≢none 0 (rw e at h);

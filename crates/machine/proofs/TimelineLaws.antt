@@ -1,15 +1,15 @@
 -- Timelines one after another: what they lead to, their steps, and the first entry. Assumes nothing.
 use Prim.Native.Nat.{ℕ, zero, suc, _+_}
 use mathlib.Core.Path.{_≡_, refl, sym, ap, _∙_}
-use mathlib.Core.Bool.{Bool, true, false}
+use mathlib.Core.Bool.{Bool, true, false, cond}
 use mathlib.Core.List.{List, [], _∷_, _++_}
 use mathlib.Core.Option.{Option, none, some}
 use native.Mathlib.Omega.{arith}
 use native.Mathlib.Nat.{zero-add, suc-add}
 use lib.ListN.{replicate}
 use Rattle.machine.specs.Machine.{Machine, Isa}
-use Rattle.machine.specs.Step.{step}
-use Rattle.machine.specs.Timelines.{Item, stepped, stepsIn, hereOr, stepsLater, afterItem, play, entryIn}
+use Rattle.machine.specs.Step.{isEntry, action, step}
+use Rattle.machine.specs.Timelines.{Item, stepped, stepsLater, play, entryIn}
 
 -- ---- the number of a step
 
@@ -37,17 +37,22 @@ later-suc n none none = refl
 later-suc n none (some k) = ap some (omega arith)
 later-suc n (some j) r = refl
 
-hereOr-first : (b : Bool) (e r : Option ℕ) → hereOr b (firstOr e r) ≡ firstOr (hereOr b e) r
-unfolding hereOr firstOr
-hereOr-first true e r = refl
-hereOr-first false e r = refl
+here-first : (b : Bool) (e r : Option ℕ) → cond b (some 0) (firstOr e r) ≡ firstOr (cond b (some 0) e) r
+unfolding firstOr
+here-first true e r = refl
+here-first false e r = refl
 
 -- ---- one timeline after another
 
 pub play-append : (isa : Isa) (t u : List Item) (x : Machine) → play isa (t ++ u) x ≡ play isa u (play isa t x)
 unfolding play
 play-append isa [] u x = refl
-play-append isa (i ∷ t) u x = play-append isa t u (afterItem isa i x)
+play-append isa (stepped ∷ t) u x = play-append isa t u (step isa x)
+
+-- how many steps a timeline has
+unfoldable pub stepsIn : List Item → ℕ
+stepsIn [] = 0
+stepsIn (stepped ∷ t) = suc (stepsIn t)
 
 pub steps-append : (t u : List Item) → stepsIn (t ++ u) ≡ stepsIn t + stepsIn u
 unfolding stepsIn
@@ -55,11 +60,13 @@ steps-append [] u = sym (zero-add (stepsIn u))
 steps-append (stepped ∷ t) u = ap suc (steps-append t u) ∙ sym (suc-add (stepsIn t) (stepsIn u))
 
 pub entry-append : (isa : Isa) (t u : List Item) (x : Machine) → entryIn isa (t ++ u) x ≡ firstOr (entryIn isa t x) (stepsLater (stepsIn t) (entryIn isa u (play isa t x)))
-unfolding entryIn play afterItem stepsIn firstOr
+unfolding entryIn play stepsIn firstOr
 entry-append isa [] u x = sym (later-zero _)
 entry-append isa (stepped ∷ t) u x =
-    ap (hereOr _) (ap (stepsLater 1) (entry-append isa t u (step isa x)) ∙ later-suc (stepsIn t) _ _)
-    ∙ hereOr-first _ _ _
+    let e : Option ℕ = entryIn isa t (step isa x) in
+    let r : Option ℕ = entryIn isa u (play isa t (step isa x)) in
+    ap (cond (isEntry (action isa x)) (some 0)) (ap (stepsLater 1) (entry-append isa t u (step isa x)) ∙ later-suc (stepsIn t) e r)
+    ∙ here-first (isEntry (action isa x)) (stepsLater 1 e) (stepsLater (suc (stepsIn t)) r)
 
 -- ---- timelines of steps alone
 

@@ -13,7 +13,7 @@ use Rattle.page.specs.declared.Access.the-variants.{Write}
 use Rattle.page.specs.Pages.{May, MaySee}
 use Rattle.machine.specs.State.{keyOf, groupOf}
 use Rattle.machine.specs.Machine.{Machine, Isa}
-use Rattle.machine.specs.Runs.{Run, answers, afterRuns, timeline, total, firstEntry, beforeEntry}
+use Rattle.machine.specs.Runs.{Run, answers, afterRuns, firstEntry, beforeEntry}
 
 -- alike (the Scope's term): every part of the state, all page registers and all ports are equal, and the memories are of one size
 pub record Alike (x y : Machine) : Type 0 where
@@ -74,12 +74,3 @@ pub record Isolated (isa : Isa) (rs : List Run) (x y : Machine) : Type 0 where
 pub record IsolatedApart (isa : Isa) (rs qs : List Run) (x y : Machine) : Type 0 where
   pub entry : firstEntry isa rs x ≡ firstEntry isa qs y
   pub found : firstEntry isa rs x ≡ none → Found x y (afterRuns isa rs x) (afterRuns isa qs y)
-
--- Property 3 of the machine with an instruction set
-pub record Isolates (isa : Isa) : Type 0 where
-  -- for every list of runs
-  pub runs : (rs : List Run) (x y : Machine) → Compared x y → Isolated isa rs x y
-  -- for two lists of unequal budgets with equal timelines
-  pub apart : (rs qs : List Run) (x y : Machine) → Compared x y → timeline isa rs x ≡ timeline isa qs y → IsolatedApart isa rs qs x y
-  -- "Lists of unequal budgets that make equally many steps leave the same findings, answers aside": their timelines are equal
-  pub equally-many : (rs qs : List Run) (x y : Machine) → Compared x y → total isa rs x ≡ total isa qs y → IsolatedApart isa rs qs x y

@@ -8,7 +8,7 @@ use lib.ListN.{length, replicate}
 use Rattle.machine.specs.declared.Answer.{Answer}
 use Rattle.machine.specs.declared.Answer.the-variants.{Spent, BadMemory, BadPages, BadPorts, BadBudget, BadCounter}
 use Rattle.machine.specs.Machine.{Machine, Isa}
-use Rattle.machine.specs.Timelines.{Item, stepped, stepsIn, play, entryIn}
+use Rattle.machine.specs.Timelines.{Item, stepped, play, entryIn}
 
 -- a run, by what its caller chooses besides the machine
 pub record Run : Type 0 where
@@ -34,7 +34,7 @@ unfoldable pub wholePages : ℕ → Bool
 wholePages n = eqb (n % 4096) 0 && (leb 4096 n && leb n 1048576)
 
 -- a question: on to the rest, or out with the answer
-unfoldable pub asked : Bool → Answer → Answer → Answer
+unfoldable pub asked : {A : Type 0} → Bool → A → A → A
 asked true out rest = rest
 asked false out rest = out
 
@@ -96,10 +96,6 @@ module _ (isa : Isa) where
   unfoldable pub timeline : List Run → Machine → List Item
   timeline [] x = []
   timeline (r ∷ rs) x = items x r ++ timeline rs (left x r)
-
-  -- how many steps they make
-  unfoldable pub total : List Run → Machine → ℕ
-  total rs x = stepsIn (timeline rs x)
 
   -- the first entry; "steps are counted over the whole list"
   unfoldable pub firstEntry : List Run → Machine → Option ℕ

@@ -1,7 +1,7 @@
 -- Timelines: what a machine goes through, one item after another. A list of runs has one (Runs), and what property 3 finds after a list depends on its timeline
 -- alone. Assumes nothing.
-use Prim.Native.Nat.{ℕ, suc, _+_}
-use mathlib.Core.Bool.{Bool, true, false}
+use Prim.Native.Nat.{ℕ, _+_}
+use mathlib.Core.Bool.{cond}
 use mathlib.Core.List.{List, [], _∷_}
 use mathlib.Core.Option.{Option, none, some}
 use Rattle.machine.specs.Machine.{Machine, Isa}
@@ -11,34 +11,18 @@ use Rattle.machine.specs.Step.{isEntry, action, step}
 pub data Item : Type 0 where
   stepped : Item
 
--- how many steps a timeline has
-unfoldable pub stepsIn : List Item → ℕ
-stepsIn [] = 0
-stepsIn (stepped ∷ t) = suc (stepsIn t)
-
--- ---- a step of a timeline, by the number of steps before it
-
--- the first one, or that which is given
-unfoldable pub hereOr : Bool → Option ℕ → Option ℕ
-hereOr true r = some 0
-hereOr false r = r
-
--- n steps later
+-- a step of a timeline, by the number of steps before it, and n steps later
 unfoldable pub stepsLater : ℕ → Option ℕ → Option ℕ
 stepsLater n none = none
 stepsLater n (some k) = some (n + k)
 
 module _ (isa : Isa) where
-  -- the machine after one item
-  unfoldable pub afterItem : Item → Machine → Machine
-  afterItem stepped x = step isa x
-
   -- the machine after all items, in their order
   unfoldable pub play : List Item → Machine → Machine
   play [] x = x
-  play (i ∷ t) x = play t (afterItem i x)
+  play (stepped ∷ t) x = play t (step isa x)
 
   -- the first entry (the Scope's term: `isEntry` in Step); "steps are counted over the whole list"
   unfoldable pub entryIn : List Item → Machine → Option ℕ
   entryIn [] x = none
-  entryIn (stepped ∷ t) x = hereOr (isEntry (action isa x)) (stepsLater 1 (entryIn t (step isa x)))
+  entryIn (stepped ∷ t) x = cond (isEntry (action isa x)) (some 0) (stepsLater 1 (entryIn t (step isa x)))

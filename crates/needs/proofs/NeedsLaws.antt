@@ -14,7 +14,7 @@ use Rattle.machine.specs.declared.Instruction.{Instruction}
 use Rattle.machine.specs.Machine.{spanFrom}
 use Rattle.isa.specs.Fields.{fieldA, register}
 use Rattle.isa.specs.Addressing.{inMemory}
-use Rattle.isa.specs.Accesses.{wordsMoved, wordsOfInteger, wordsOfFloat, wordsRead, wordsWritten, atOperand, readsOf, writesOf}
+use Rattle.isa.specs.Accesses.{wordsRead, wordsWritten, atOperand, readsOf, writesOf}
 use Rattle.needs.specs.Needs.{exceptions, wayOf, needOf}
 
 -- the counts, and the two words at a register, computed at every operation
@@ -24,7 +24,7 @@ parted k =
     && (eqb (needOf k / 16 % 2) (cond (eqb k 37) 1 0) && eqb (needOf k / 32 % 2) (cond (eqb k 36) 1 0))
 
 all-parted : (k : ℕ) → k < 256 → parted k ≡ true
-unfolding needOf exceptions wayOf wordsRead wordsMoved wordsOfFloat wordsOfInteger wordsWritten
+unfolding needOf exceptions wayOf wordsRead wordsWritten
 all-parted k h = passes parted 256 refl k h
 
 parts : (k : ℕ) → k < 256
@@ -80,12 +80,12 @@ apart k j h i = by (eqb k j) refl
 
 others : (k : ℕ) → needOf k / 64 % 2 ≡ 0
     → (eqb k 40 ≡ false) × (eqb k 44 ≡ false) × (eqb k 47 ≡ false) × (eqb k 50 ≡ false) × (eqb k 54 ≡ false)
-unfolding needOf exceptions wayOf wordsRead wordsMoved wordsOfFloat wordsOfInteger wordsWritten
+unfolding needOf exceptions wayOf wordsRead wordsWritten
 others k h = (apart k 40 h refl, apart k 44 h refl, apart k 47 h refl, apart k 50 h refl, apart k 54 h refl)
 
 -- those on blocks need no word at their derived address
 blocks-told : (k : ℕ) → k < 256 → not (eqb (needOf k / 64 % 2) 1) || eqb (needOf k) 64 ≡ true
-unfolding needOf exceptions wayOf wordsRead wordsMoved wordsOfFloat wordsOfInteger wordsWritten
+unfolding needOf exceptions wayOf wordsRead wordsWritten
 blocks-told k h = passes (λ (j : ℕ). not (eqb (needOf j / 64 % 2) 1) || eqb (needOf j) 64) 256 refl k h
 
 block-need : (k : ℕ) → k < 256 → needOf k / 64 % 2 ≡ 1 → needOf k ≡ 64
@@ -170,10 +170,3 @@ module _ (regs : List ℕ) (n : Instruction) (need : ℕ) (e : need ≡ needOf (
   writes-span = marked (writesOf regs n) (need / 32 % 2) _ _ _ register-written operand-written
 
 -- ---- the way of an operation that is carried out directly
-
-ways-told : (k : ℕ) → k < 256 → needOf k / 128 ≡ wayOf k
-unfolding needOf exceptions wayOf wordsRead wordsMoved wordsOfFloat wordsOfInteger wordsWritten
-ways-told k h = eqb-true _ _ (passes (λ (j : ℕ). eqb (needOf j / 128) (wayOf j)) 256 refl k h)
-
-pub way-told : (form need : ℕ) → need ≡ needOf (operationOf form) → need / 128 ≡ wayOf (operationOf form)
-way-told form need e = ap (λ (m : ℕ). m / 128) e ∙ ways-told (operationOf form) (omega arith)

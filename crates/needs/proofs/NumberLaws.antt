@@ -18,7 +18,7 @@ use Rattle.decode.proofs.DecodeLaws as forms
 use Rattle.decode.proofs.FormLaws.{Legal, opcode-legal, decode-legal}
 use Rattle.machine.specs.declared.Instruction.{Instruction}
 use Rattle.isa.specs.Addressing.{inMemory}
-use Rattle.isa.specs.Accesses.{wordsMoved, wordsOfInteger, wordsOfFloat, wordsRead, wordsWritten, readsOf, writesOf}
+use Rattle.isa.specs.Accesses.{wordsRead, wordsWritten, readsOf, writesOf}
 use Rattle.needs.specs.Needs.{exceptions, wayOf, needOf, ruleOf, countsOf, numberOf, numbers}
 use Rattle.needs.proofs.NeedsLaws.{register-read, operand-read, register-written, operand-written, reading-told, reading-untold, writing-told, writing-untold}
 
@@ -66,7 +66,7 @@ module _ (form : ℕ) (h : form < 65536) where
       (λ t. eq-eqb form k (sym (number-form form h) ∙ ap (λ (n : ℕ). n % 65536) (eqb-true (numberOf form) m t ∙ sym e) ∙ number-form k l))
 
   numbered : (x y : ℕ) → numberOf (forms.resolved form x y) ≡ resolved (numberOf form) x y
-  unfolding forms.extended extended numberOf ruleOf countsOf needOf exceptions wayOf wordsRead wordsMoved wordsOfFloat wordsOfInteger wordsWritten inMemory
+  unfolding forms.extended extended numberOf ruleOf countsOf needOf exceptions wayOf wordsRead wordsWritten inMemory
   numbered x y =
       rw (key 0x1300 0x05001300 (omega arith) refl, key 0x2900 0x05002900 (omega arith) refl, key 0x1000 0x05001000 (omega arith) refl)
       (chosen (eqb (numberOf form) 0x05001300) _ _ ∙ ap (cond (eqb (numberOf form) 0x05001300) (numberOf (formClaimed 0x40 x 0)))
@@ -91,7 +91,7 @@ tested b k =
     && ltb (counted b k) 16
 
 all-tested : (b : Bool) (k : ℕ) → k < 256 → tested b k ≡ true
-unfolding needOf exceptions wayOf wordsRead wordsMoved wordsOfFloat wordsOfInteger wordsWritten
+unfolding needOf exceptions wayOf wordsRead wordsWritten
 all-tested true k h = passes (tested true) 256 refl k h
 all-tested false k h = passes (tested false) 256 refl k h
 
@@ -106,7 +106,7 @@ abbrev ruled : ℕ → Bool
 ruled k = below-ten k && from-ten k
 
 all-ruled : (k : ℕ) → k < 256 → ruled k ≡ true
-unfolding ruleOf needOf exceptions wayOf wordsRead wordsMoved wordsOfFloat wordsOfInteger wordsWritten
+unfolding ruleOf needOf exceptions wayOf wordsRead wordsWritten
 all-ruled k h = passes ruled 256 refl k h
 
 module _ (form : ℕ) where

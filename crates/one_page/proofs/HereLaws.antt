@@ -30,13 +30,20 @@ use Rattle.machine.specs.Instructions.{both}
 use Rattle.machine.specs.Step.{affected, stored}
 use Rattle.isa.specs.Fields.{fieldA, fieldB, register, withRegister, registersFrom}
 use Rattle.isa.specs.Addressing.{inMemory}
-use Rattle.isa.specs.Accesses.{wordsMoved, wordsRead, wordsWritten, atOperand, allFrom, poppedSpan, pushedSpan, movedSpan, readsOf, writesOf}
+use Rattle.isa.specs.Accesses.{wordsRead, wordsWritten, atOperand, allFrom, poppedSpan, pushedSpan, movedSpan, readsOf, writesOf}
 use Rattle.isa.specs.Blocks.{rearranged, loadedAll, poppedFrom, poppedAll, movedWord, storedAll, pushedFrom, pushedAll}
 use Rattle.isa.specs.Mil1750.{contextOf}
 use Rattle.isa.specs.Execute.{executed}
 use Rattle.rearrange.specs.Operation.{Finished, Attempted}
-use Rattle.one_page.specs.Rows.{fitting, rowOf, upwards, downwards, storedAt}
+use Rattle.one_page.specs.Rows.{fitting, rowOf, storedAt}
 use Rattle.rearrange.proofs.BlockLaws.{none-chosen, operand-unwritten}
+
+-- the places from p on, by their numbers
+abbrev pub upwards : ℕ → ℕ → ℕ
+upwards p j = p + j
+
+abbrev pub downwards : ℕ → ℕ → ℕ
+downwards p j = p - j
 
 -- ---- an attempt, by its mark
 
@@ -231,7 +238,7 @@ module _ (s : Processor) (m g : List ℕ) (n : Instruction) where
 
   pub stored-here : operationOf (n .form) ≡ 50 → (p : ℕ) → RowAt Write (keyOf (s .core .sw)) (groupOf (s .core .sw)) g (length m) (n .address) (fieldA (n .first) + 1) p
       → (t : Processor) (w : List ℕ) → t ≡ affected s (storedAll (contextOf s) n) → w ≡ storedAt (upwards p) (s .regs) (fieldA (n .first) + 1) 0 m → Finished s m g n t w
-  unfolding readsOf writesOf allFrom wordsRead wordsMoved executed storedAll rearranged contextOf
+  unfolding readsOf writesOf allFrom wordsRead executed storedAll rearranged contextOf
   stored-here o p r t w h i =
       let to = spanFrom (n .address) (fieldA (n .first) + 1) in
       let f : Found (keyOf (s .core .sw)) (groupOf (s .core .sw)) g (length m) to Write (upwards p) = found-up _ _ _ _ to Write p (r .0) refl (r .1) (r .2) in
@@ -245,7 +252,7 @@ module _ (s : Processor) (m g : List ℕ) (n : Instruction) where
       → (t : Processor) (w : List ℕ) → t ≡ affected s (pushedAll (contextOf s) n)
       → w ≡ storedAt (downwards p) (pushedFrom (s .regs) (fieldB (n .first)) (registersFrom (fieldA (n .first)) (fieldB (n .first))) 0) (registersFrom (fieldA (n .first)) (fieldB (n .first))) 0 m
       → Finished s m g n t w
-  unfolding readsOf writesOf pushedSpan wordsRead wordsMoved executed pushedAll rearranged contextOf
+  unfolding readsOf writesOf pushedSpan wordsRead executed pushedAll rearranged contextOf
   pushed-here o p e l t w h i =
       let to = pushedSpan (s .regs) n in
       let f : Found (keyOf (s .core .sw)) (groupOf (s .core .sw)) g (length m) to Write (downwards p) = found-down _ _ _ _ to Write p e refl l in

@@ -18,13 +18,6 @@ fitting size count (Refused b) = Refused 0
 unfoldable pub rowOf : Access → ℕ → ℕ → List ℕ → ℕ → ℕ → ℕ → Place
 rowOf k key group g size a count = cond (ltb 4096 (a % 4096 + count)) (Refused 0) (fitting size count (lookup k key group g size a))
 
--- the places from p on, by their numbers
-abbrev pub upwards : ℕ → ℕ → ℕ
-upwards p j = p + j
-
-abbrev pub downwards : ℕ → ℕ → ℕ
-downwards p j = p - j
-
 -- n words of a buffer, of which the first has the number i, are stored each at the place of its number
 unfoldable pub storedAt : (ℕ → ℕ) → List ℕ → ℕ → ℕ → List ℕ → List ℕ
 storedAt place buf zero i m = m

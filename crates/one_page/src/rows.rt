@@ -1,9 +1,9 @@
 // Words that lie one after another in memory: where they do, and stores there.
 ghost use mathlib.Core.Path.{_≡_};
-ghost use Prim.Native.Nat.{_+_, _≤_, _<_};
+ghost use Prim.Native.Nat.{_+_, _-_, _≤_, _<_};
 ghost use lib.ListN.{length};
 ghost use Rattle.isa.specs.Blocks.{pushedFrom};
-ghost use Rattle.one_page.specs.Rows.{rowOf, upwards, downwards, storedAt};
+ghost use Rattle.one_page.specs.Rows.{rowOf, storedAt};
 use block::stores::pushed_word;
 use page::Access;
 use page::Place;
@@ -39,7 +39,7 @@ pub(crate) fn find_row(
 // STM: the first count registers go to the words from p on.
 pub(crate) fn store_row(regs: &[u16; 16], memory: &mut [u16], p: usize, count: u16)
     requires { ⌜ (count ≤ 16) × (p + count ≤ length (now memory)) ⌝ }
-    ensures { λ r. ⌜ now (memory .exit) ≡ storedAt (upwards p) (now (regs .entry)) count 0 (now (memory .entry)) ⌝ }
+    ensures { λ r. ⌜ now (memory .exit) ≡ storedAt (λ j. p + j) (now (regs .entry)) count 0 (now (memory .entry)) ⌝ }
 {
     let mut i: usize = 0;
     let mut left = count;
@@ -54,7 +54,7 @@ pub(crate) fn store_row(regs: &[u16; 16], memory: &mut [u16], p: usize, count: u
 // PSHM: count registers from b downwards go to the words from p downwards.
 pub(crate) fn push_row(regs: &[u16; 16], memory: &mut [u16], p: usize, b: u16, count: u16)
     requires { ⌜ (b < 16) × (count ≤ 16) × (count ≤ p + 1) × (p < length (now memory)) ⌝ }
-    ensures { λ r. ⌜ now (memory .exit) ≡ storedAt (downwards p) (pushedFrom (now (regs .entry)) b count 0) count 0 (now (memory .entry)) ⌝ }
+    ensures { λ r. ⌜ now (memory .exit) ≡ storedAt (λ j. p - j) (pushedFrom (now (regs .entry)) b count 0) count 0 (now (memory .entry)) ⌝ }
 {
     let mut i: u16 = 0;
     let mut left = count;

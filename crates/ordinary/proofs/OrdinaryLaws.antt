@@ -6,9 +6,8 @@ use mathlib.Core.List.{List, [], _∷_}
 use native.Mathlib.Omega.{arith}
 use lib.Dec.{eqb, leb, ltb}
 use borrow.Author.Tests.{eqb-true, eq-eqb, le-leb, lt-ltb}
-use Rattle.choice.specs.Select.{ruleAt, spans, below}
 use Rattle.choice.specs.Table.{among}
-use Rattle.choice.proofs.SelectLaws.{ranged, beyond}
+use Rattle.choice.proofs.SelectLaws.{ruleAt, spans, below, ranged, beyond}
 use Rattle.choice.proofs.TestLaws.{either, passes}
 use Rattle.machine.specs.declared.Instruction.{Instruction}
 use Rattle.machine.specs.Machine.{Effect}

@@ -12,18 +12,18 @@ use Rattle.machine.proofs.MachineLaws.{became-machine}
 use Rattle.image.specs.declared.Loading.{Loading}
 use Rattle.image.specs.Image as image
 use Rattle.report.specs.Report.{refusalOf}
-use Rattle.program.specs.Printed.{memorySize, pagesSize, portsSize, unless, lengthNumber, loadNumber, started, ranText, printed, afterwards, Holds}
+use Rattle.program.specs.Printed.{memorySize, pagesSize, portsSize, unless, lengthNumber, loadNumber, ranText, printed, afterwards, Holds}
 
 -- a machine holds its own lists, and what became of another
 pub holds-own : (x y : Machine) → y ≡ x → Holds y (x .memory) (x .pages) (x .ports)
-holds-own x y e = record { memory-is = ap (λ z. z .memory) (sym e); pages-is = ap (λ z. z .pages) (sym e); ports-is = ap (λ z. z .ports) (sym e) }
+holds-own x y e = record { state-is = refl; memory-is = ap (λ z. z .memory) (sym e); pages-is = ap (λ z. z .pages) (sym e); ports-is = ap (λ z. z .ports) (sym e) }
 
 pub holds-became : (x y : Machine) {s : State} {m g o : List ℕ} → Became y s m g o → x ≡ y → Holds x m g o
-holds-became x y b e = rw e (record { memory-is = b .memory-is; pages-is = b .pages-is; ports-is = b .ports-is })
+holds-became x y b e = rw e (record { state-is = refl; memory-is = b .memory-is; pages-is = b .pages-is; ports-is = b .ports-is })
 
 -- the lists of two machines that are the same, with any state
 pub holds-lists : {s t u : State} {m g o m' g' o' : List ℕ} → machine s m g o ≡ machine t m' g' o' → Holds (machine u m' g' o') m g o
-holds-lists e = record { memory-is = ap (λ z. z .memory) e; pages-is = ap (λ z. z .pages) e; ports-is = ap (λ z. z .ports) e }
+holds-lists e = record { state-is = refl; memory-is = ap (λ z. z .memory) e; pages-is = ap (λ z. z .pages) e; ports-is = ap (λ z. z .ports) e }
 
 -- an input that is too long
 pub too-long : (b : List ℕ) → 32768 < length b → printed b ≡ refusalOf 13
@@ -39,7 +39,7 @@ pub refused : (b : List ℕ) (n : ℕ) → length b ≤ 32768 → n ≡ loadNumb
 unfolding printed unless lengthNumber
 refused b n h e z = rw (le-leb _ _ h, ← e, ne-eqb _ _ z) refl
 
-pub accepted : (b : List ℕ) (n : ℕ) → length b ≤ 32768 → n ≡ loadNumber b → n ≡ 0 → printed b ≡ ranText (started b)
+pub accepted : (b : List ℕ) (n : ℕ) → length b ≤ 32768 → n ≡ loadNumber b → n ≡ 0 → printed b ≡ ranText (image.loaded b memorySize pagesSize portsSize)
 unfolding printed unless lengthNumber
 accepted b n h e z = rw (le-leb _ _ h, ← e, eq-eqb _ _ z) refl
 
@@ -47,7 +47,7 @@ pub refused-left : (b : List ℕ) (x : Machine) (n : ℕ) → length b ≤ 32768
 unfolding afterwards lengthNumber
 refused-left b x n h e z = rw (le-leb _ _ h, ← e, ne-eqb _ _ z) refl
 
-pub accepted-left : (b : List ℕ) (x : Machine) (n : ℕ) → length b ≤ 32768 → n ≡ loadNumber b → n ≡ 0 → afterwards b x ≡ left mil1750 (started b) (runOf 1000)
+pub accepted-left : (b : List ℕ) (x : Machine) (n : ℕ) → length b ≤ 32768 → n ≡ loadNumber b → n ≡ 0 → afterwards b x ≡ left mil1750 (image.loaded b memorySize pagesSize portsSize) (runOf 1000)
 unfolding afterwards lengthNumber
 accepted-left b x n h e z = rw (le-leb _ _ h, ← e, eq-eqb _ _ z) refl
 
@@ -59,8 +59,8 @@ module _ (b : List ℕ) (x : Machine) (memory : length (x .memory) ≡ memorySiz
   number-is a n e f = e ∙ ap image.numberOf f ∙ rw (memory, pages, ports) refl
 
   -- and an accepted one leaves the machine that the run starts from
-  pub machine-is : (a : Loading) (n : ℕ) (s : State) (m g o : List ℕ) → n ≡ image.numberOf a → n ≡ 0 → image.Outcome b x a s m g o → machine s m g o ≡ started b
-  unfolding started image.afterLoading image.loaded
+  pub machine-is : (a : Loading) (n : ℕ) (s : State) (m g o : List ℕ) → n ≡ image.numberOf a → n ≡ 0 → image.Outcome b x a s m g o → machine s m g o ≡ image.loaded b memorySize pagesSize portsSize
+  unfolding image.afterLoading
   machine-is a n s m g o e z h =
       became-machine (h .became) ∙ rw (eq-eqb (image.numberOf (image.answerOf b x)) 0 (ap image.numberOf (sym (h .answer-is)) ∙ sym e ∙ z), memory, pages, ports) refl
 

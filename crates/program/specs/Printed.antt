@@ -2,14 +2,11 @@
 use Prim.Native.Nat.{ℕ}
 use mathlib.Core.Bool.{cond}
 use mathlib.Core.List.{List}
-use mathlib.Core.Path.{_≡_}
 use lib.Dec.{eqb, leb}
 use lib.ListN.{length}
-use Rattle.machine.specs.Machine.{Machine}
+use Rattle.machine.specs.Machine.{Machine, Became}
 use Rattle.machine.specs.Runs.{runOf, numberOf, answerOf, left}
 use Rattle.isa.specs.Mil1750.{mil1750}
-use Rattle.reset.specs.Reset.{resetMachine}
-use Rattle.image.specs.Image.{countOf, withBodies, admission}
 use Rattle.image.specs.Image as image
 use Rattle.report.specs.Report.{reportOf, refusalOf}
 
@@ -37,11 +34,7 @@ lengthNumber b = cond (leb (length b) 32768) 0 13
 
 -- the loader's questions
 unfoldable pub loadNumber : List ℕ → ℕ
-loadNumber b = image.numberOf (admission b memorySize pagesSize portsSize)
-
--- the machine that an accepted image makes: reset, then the bodies
-unfoldable pub started : List ℕ → Machine
-started b = withBodies b (countOf b) 0 (resetMachine memorySize pagesSize portsSize)
+loadNumber b = image.numberOf (image.admission b memorySize pagesSize portsSize)
 
 -- the text after a run on the machine x
 unfoldable pub ranText : Machine → List ℕ
@@ -49,14 +42,12 @@ ranText x = unless (numberOf (answerOf x (runOf budget))) (reportOf budget (left
 
 -- the program: the length, the loader's questions, the run
 unfoldable pub printed : List ℕ → List ℕ
-printed b = unless (lengthNumber b) (unless (loadNumber b) (ranText (started b)))
+printed b = unless (lengthNumber b) (unless (loadNumber b) (ranText (image.loaded b memorySize pagesSize portsSize)))
 
 -- the machine after it, from the machine x that it holds: a refusal leaves that as it was
 unfoldable pub afterwards : List ℕ → Machine → Machine
-afterwards b x = cond (eqb (lengthNumber b) 0) (cond (eqb (loadNumber b) 0) (left mil1750 (started b) (runOf budget)) x) x
+afterwards b x = cond (eqb (lengthNumber b) 0) (cond (eqb (loadNumber b) 0) (left mil1750 (image.loaded b memorySize pagesSize portsSize) (runOf budget)) x) x
 
 -- memory, page registers and ports are those of the machine x
-pub record Holds (x : Machine) (memory pages ports : List ℕ) : Type 0 where
-  pub memory-is : memory ≡ x .memory
-  pub pages-is : pages ≡ x .pages
-  pub ports-is : ports ≡ x .ports
+abbrev pub Holds : Machine → List ℕ → List ℕ → List ℕ → Type 0
+Holds x memory pages ports = Became x (x .state) memory pages ports

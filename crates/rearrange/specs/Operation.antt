@@ -11,6 +11,7 @@ use Rattle.machine.specs.State.{Processor, keyOf, groupOf}
 use Rattle.machine.specs.Step.{affected, stored}
 use Rattle.machine.specs.Instructions.{both}
 use Rattle.page.specs.declared.Access.the-variants.{Read, Write}
+use Rattle.page.specs.declared.Verdict.{Verdict}
 use Rattle.page.specs.declared.Verdict.the-variants.{Clear}
 use Rattle.page.specs.Spans.{checked, wordsOf}
 use Rattle.isa.specs.Accesses.{readsOf, writesOf}
@@ -21,6 +22,16 @@ use Rattle.isa.specs.Execute.{executed}
 unfoldable pub isBlock : ℕ → Bool
 isBlock operation = select operation ((40, true) ∷ (44, true) ∷ (47, true) ∷ (50, true) ∷ (54, true) ∷ (90, true) ∷ []) false
 
+-- the verdict on all accesses of the instruction n, from the processor p, in the memory m through the page registers g
+abbrev pub verdict : Processor → List ℕ → List ℕ → Instruction → Verdict
+verdict p m g n =
+    both (checked (keyOf (p .core .sw)) (groupOf (p .core .sw)) g (length m) (readsOf (p .regs) n) Read)
+    (checked (keyOf (p .core .sw)) (groupOf (p .core .sw)) g (length m) (writesOf (p .regs) n) Write)
+
+-- the words that it reads
+abbrev pub operandWords : Processor → List ℕ → List ℕ → Instruction → List ℕ
+operandWords p m g n = wordsOf (keyOf (p .core .sw)) (groupOf (p .core .sw)) g (length m) (readsOf (p .regs) n) m
+
 -- the processor q and the memory w are those after the effect e of the instruction n, from the processor p, the memory m and the page registers g
 pub record Worked (p : Processor) (m g : List ℕ) (n : Instruction) (e : Effect) (q : Processor) (w : List ℕ) : Type 0 where
   pub processor-is : q ≡ affected p e
@@ -28,8 +39,8 @@ pub record Worked (p : Processor) (m g : List ℕ) (n : Instruction) (e : Effect
 
 -- all accesses of the instruction n are open, and it has worked
 pub record Finished (p : Processor) (m g : List ℕ) (n : Instruction) (q : Processor) (w : List ℕ) : Type 0 where
-  pub admitted : both (checked (keyOf (p .core .sw)) (groupOf (p .core .sw)) g (length m) (readsOf (p .regs) n) Read) (checked (keyOf (p .core .sw)) (groupOf (p .core .sw)) g (length m) (writesOf (p .regs) n) Write) ≡ Clear
-  pub worked : Worked p m g n (executed (contextOf p) n (wordsOf (keyOf (p .core .sw)) (groupOf (p .core .sw)) g (length m) (readsOf (p .regs) n) m)) q w
+  pub admitted : verdict p m g n ≡ Clear
+  pub worked : Worked p m g n (executed (contextOf p) n (operandWords p m g n)) q w
 
 -- an attempt is finished, or has left the processor and the memory as they were
 abbrev pub Attempted : Bool → Processor → List ℕ → List ℕ → Instruction → Processor → List ℕ → Type 0

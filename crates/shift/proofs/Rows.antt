@@ -6,7 +6,7 @@ use lib.Dec.{eqb, T}
 use Rattle.choice.proofs.Rows.{allOf}
 use Rattle.whole.specs.Whole.{signed, wrap, holds, shiftLeft, shiftRight, shiftArith, rotate, signChanges}
 use Rattle.word.specs.Status.{status}
-use Rattle.shift.specs.Shift.{Shifted, countOf, moved, shiftedBy, logicalBy, arithmeticBy, rotateRight, circularBy}
+use Rattle.shift.specs.Shift.{Shifted, countOf, moved, shiftedBy, logicalBy, arithmeticBy, circularBy}
 
 -- a case: the width, the word, the number of places or the count word; then the result, for a count word with CS and overflow
 pub data Row : Type 0 where
@@ -18,7 +18,7 @@ unfolding status
 is w s value cs overflow = eqb (s .value) value && eqb (status w (s .value)) cs && Bool·beq (s .overflow) overflow
 
 unfoldable pub holdsOf : Row → Bool
-unfolding signed wrap holds shiftLeft shiftRight shiftArith rotate signChanges countOf moved shiftedBy rotateRight is
+unfolding signed wrap holds shiftLeft shiftRight shiftArith rotate signChanges countOf moved shiftedBy is
 holdsOf (left w a n r) = eqb (shiftLeft w n a) r
 holdsOf (right w a n r) = eqb (shiftRight w n a) r
 holdsOf (arith w a n r) = eqb (shiftArith w n a) r

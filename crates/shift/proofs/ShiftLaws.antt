@@ -1,8 +1,8 @@
 -- Shifts by a number of places, at every width: what the code's shifts make in a word of twice the width. Assumes nothing.
-use mathlib.Core.Path.{_≡_, sym, ap, ap₂, _∙_, subst}
+use mathlib.Core.Path.{_≡_, sym, ap, _∙_, subst}
 use mathlib.Core.Bool.{true, false, not}
 use Prim.Native.Nat.{ℕ, _+_, _-_, _*_, _/_, _%_, _^_, _≤_, _<_}
-use native.Mathlib.Nat.{mod-add-mod, div-one, mod-one}
+use native.Mathlib.Nat.{mod-add-mod}
 use native.Mathlib.Omega.{arith}
 use lib.Bits.{bitOr, or-shifted}
 use lib.IntN.{pos, _*ℤ_}
@@ -12,7 +12,6 @@ use Rattle.whole.specs.Whole.{holds, withSign, rotate, signChanges}
 use Rattle.whole.proofs.Laws.{signed-low}
 use Rattle.whole.proofs.Signs.{mul-sign, long-pos, long-neg, parts-high}
 use Rattle.whole.proofs.Shifts.{circle}
-use Rattle.shift.specs.Shift.{rotateRight}
 
 -- the two ends of a rotation, put together by OR
 pub around : (w n a : ℕ) → n ≤ w → a < 2 ^ w → bitOr (a * 2 ^ n % 2 ^ (w + w)) (a / 2 ^ (w - n)) % 2 ^ w ≡ rotate w n a
@@ -22,18 +21,6 @@ around w n a h l =
     let s : a / 2 ^ (w - n) < 2 ^ n = shr-lt n (w - n) (subst (λ (x : ℕ). a < 2 ^ x) (let t : w ≡ n + (w - n) = omega arith in t) l) in
     ap (λ (x : ℕ). bitOr x b % 2 ^ w) e ∙ ap (λ (x : ℕ). x % 2 ^ w) (or-shifted a n b s) ∙ sym (mod-add-mod (a * 2 ^ n) (2 ^ w) b)
     ∙ ap (λ (x : ℕ). (x % 2 ^ w + b) % 2 ^ w) (sym e) ∙ circle w w n a h l
-
--- a whole turn changes nothing
-pub whole-turn : (w a : ℕ) → rotate w w a ≡ a
-unfolding rotate
-whole-turn w a =
-    let e : w - w ≡ 0 = omega arith in
-    ap (λ (x : ℕ). a % 2 ^ x * 2 ^ w + a / 2 ^ x) e ∙ ap₂ (λ (x y : ℕ). x * 2 ^ w + y) (mod-one a) (div-one a) ∙ (omega arith)
-
--- to the right by n places is to the left by the rest of the turn
-pub right-turn : (w n a : ℕ) → n ≤ w → rotate w (w - n) a ≡ rotateRight w n a
-unfolding rotate rotateRight
-right-turn w n a h = ap (λ (x : ℕ). a % 2 ^ x * 2 ^ (w - n) + a / 2 ^ x) (let e : w - (w - n) ≡ n = omega arith in e)
 
 -- the sign changes: by the magnitude of the word, moved left
 pub low-changes : (w n a : ℕ) → a < 2 ^ (w - 1) → leb (2 ^ (w - 1)) (a * 2 ^ n) ≡ signChanges w n a

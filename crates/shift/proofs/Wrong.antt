@@ -6,7 +6,7 @@ use Rattle.choice.proofs.Rows.{Row, one, some, hold, flag}
 use Rattle.whole.specs.Whole.{signed, wrap, holds, shiftLeft, shiftRight, shiftArith, rotate, signChanges}
 use Rattle.shift.specs.declared.Shifted16.{Shifted16}
 use Rattle.shift.specs.declared.Shifted32.{Shifted32}
-use Rattle.shift.specs.Shift.{countOf, moved, shiftedBy, logicalBy, arithmeticBy, rotateRight, circularBy, shifted16, shifted32}
+use Rattle.shift.specs.Shift.{countOf, moved, shiftedBy, logicalBy, arithmeticBy, circularBy, shifted16, shifted32}
 
 -- the value, and overflow
 abbrev parts16 : Shifted16 → List ℕ
@@ -48,5 +48,5 @@ rows =
     ∷ []
 
 pub rows-hold : T (hold rows)
-unfolding rows signed wrap holds shiftLeft shiftRight shiftArith rotate signChanges countOf moved shiftedBy rotateRight
+unfolding rows signed wrap holds shiftLeft shiftRight shiftArith rotate signChanges countOf moved shiftedBy
 rows-hold = tt

@@ -2,7 +2,7 @@
 -- The shifts by a number of places, 5.10 to 5.17, are `shiftLeft`, `shiftRight`, `shiftArith` and `rotate` of `whole`.
 -- Assumes nothing.
 use mathlib.Core.Bool.{Bool, true, false, cond}
-use Prim.Native.Nat.{ℕ, suc, _+_, _-_, _*_, _/_, _%_, _^_}
+use Prim.Native.Nat.{ℕ, suc, _-_}
 use lib.IntN.{ℤ, pos, negsuc}
 use lib.Dec.{leb}
 use Rattle.whole.specs.Whole.{signed, shiftLeft, shiftRight, shiftArith, rotate, signChanges}
@@ -45,13 +45,9 @@ logicalBy w a count = shiftedBy w (λ n. plain (shiftLeft w n a)) (λ n. plain (
 abbrev pub arithmeticBy : ℕ → ℕ → ℕ → Shifted
 arithmeticBy w a count = shiftedBy w (λ n. outcome (shiftLeft w n a) (signChanges w n a)) (λ n. plain (shiftArith w n a)) a count
 
--- w bits moved right by n places in a circle, n at most w
-unfoldable pub rotateRight : ℕ → ℕ → ℕ → ℕ
-rotateRight w n a = a % 2 ^ n * 2 ^ (w - n) + a / 2 ^ n
-
--- cyclic (5.20, 5.23)
+-- cyclic: to the right by n places is to the left by the rest of the turn (5.20, 5.23)
 abbrev pub circularBy : ℕ → ℕ → ℕ → Shifted
-circularBy w a count = shiftedBy w (λ n. plain (rotate w n a)) (λ n. plain (rotateRight w n a)) a count
+circularBy w a count = shiftedBy w (λ n. plain (rotate w n a)) (λ n. plain (rotate w (w - n) a)) a count
 
 -- the code's structs
 abbrev pub shifted16 : Shifted → Shifted16

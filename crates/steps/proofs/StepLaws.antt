@@ -22,7 +22,11 @@ use Rattle.moved.specs.declared.Moved.{Moved}
 use Rattle.moved.specs.Settled.{Settled, after}
 use Rattle.moved.proofs.MovedLaws.{timer-none}
 use Rattle.steps.specs.declared.Row.{Row}
-use Rattle.steps.specs.Rows.{lateAt, rowOf, due}
+use Rattle.steps.specs.Rows.{lateAt, due}
+
+-- the row that ends with an instruction, after which n steps of the stretch are made
+abbrev pub rowOf : Moved → ℕ → Row
+rowOf v n = record { core = v .core; lag = n; timer = v .timer; register = v .register }
 
 -- ---- what a step does, from the interrupt n that is chosen
 

@@ -12,16 +12,11 @@ use Rattle.machine.specs.Runs.{steps}
 use Rattle.isa.specs.Commands.{timerCommand}
 use Rattle.isa.specs.Mil1750.{mil1750}
 use Rattle.clock.specs.Later.{Calm, later}
-use Rattle.moved.specs.declared.Moved.{Moved}
 use Rattle.steps.specs.declared.Row.{Row}
 
 -- the state n calm ticks after the clock of s, with the core c and the registers r
 abbrev pub lateAt : State → ℕ → Core → List ℕ → State
 lateAt s n c r = withClock (withProcessor s (joined c r)) (later n (s .clock))
-
--- the row that ends with an instruction, after which n steps of the stretch are made
-abbrev pub rowOf : Moved → ℕ → Row
-rowOf v n = record { core = v .core; lag = n; timer = v .timer; register = v .register }
 
 -- the timer command that a row leaves to do, where there is one, is done
 abbrev pub due : Row → State → State

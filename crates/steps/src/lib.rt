@@ -15,7 +15,7 @@ ghost use Rattle.isa.specs.Commands.{timerCommand};
 ghost use Rattle.isa.specs.Mil1750.{mil1750};
 ghost use Rattle.needs.specs.Needs.{numbers};
 ghost use Rattle.clock.specs.Later.{Calm, later};
-ghost use Rattle.steps.specs.Rows.{rowOf, Made};
+ghost use Rattle.steps.specs.Rows.{Made};
 use clock::later::quiet;
 use clock::later::tick_by;
 use clock::time::elapse;
@@ -65,7 +65,7 @@ fn end_of(held: bool, from: u32, most: u32) -> u32
 
 // After an instruction.
 fn ended(moved: Moved, lag: u32) -> Row
-    ensures { λ r. ⌜ r ≡ rowOf moved lag ⌝ }
+    ensures { λ r. ⌜ r ≡ record { core = moved .core; lag = lag; timer = moved .timer; register = moved .register } ⌝ }
 {
     let core = moved.core;
     Row {

@@ -1,6 +1,6 @@
 -- XIO: a timer command, and any other done or refused. Assumes nothing.
 use Prim.Native.Nat.{ℕ, _+_}
-use mathlib.Core.Path.{_≡_, refl, ap, subst, _∙_}
+use mathlib.Core.Path.{_≡_, refl, ap, subst}
 use mathlib.Core.Bool.{true}
 use mathlib.Core.List.{List, map}
 use Rattle.choice.proofs.TestLaws.{among-every}
@@ -13,9 +13,9 @@ use Rattle.machine.specs.State.{joined, withCore, withProcessor}
 use Rattle.machine.specs.Machine.{Became, Supervised, nextOf}
 use Rattle.machine.specs.Instructions.{supervised}
 use Rattle.machine.specs.Step.{faulted, perform}
-use Rattle.isa.specs.Fields.{fieldA, register}
-use Rattle.isa.specs.Commands.{resumed, isTimer, timerRules, timerCommand, stateCommand, commanded, becomes}
-use Rattle.command.specs.Outcome.{transferred, governed, Kept}
+use Rattle.isa.specs.Fields.{fieldA}
+use Rattle.isa.specs.Commands.{resumed, isTimer, timerRules, timerCommand, stateCommand, commanded, becomes, transferred}
+use Rattle.command.specs.Outcome.{governed, Kept}
 use Rattle.command.specs.declared.Governed.{Governed}
 use Rattle.command.specs.declared.Governed.the-variants.{Done, Refused}
 

@@ -21,10 +21,9 @@ use Rattle.machine.specs.Instructions.{Action, fail, call, govern, view, both, 
 use Rattle.machine.specs.Step.{perform}
 use Rattle.isa.specs.Addressing.{inMemory}
 use Rattle.isa.specs.Accesses.{atOperand, readsOf, writesOf}
-use Rattle.isa.specs.Commands.{becomes, statusLoaded, supervisedBy}
+use Rattle.isa.specs.Commands.{becomes, statusLoaded, supervisedBy, transferred}
 use Rattle.isa.specs.Mil1750.{classOf, mil1750}
 use Rattle.needs.specs.Needs.{wayOf}
-use Rattle.command.specs.Outcome.{transferred}
 use Rattle.gather.specs.declared.Gathered.{Gathered}
 use Rattle.gather.specs.Gathers.{gathered}
 use Rattle.accumulate.proofs.WayLaws.{way-system, way-reads, way-writes}

@@ -1,9 +1,9 @@
--- Written by tools/prove.py from answers/gather.py: answer 405e2e07220d, proof ac66aa7641a1.
+-- Written by tools/prove.py from answers/gather.py: answer 220c38aa5b62, proof ffca3599f2b7.
 -- `gather::gather` meets its contract. Assumes nothing.
-use Rattle.gather.proofs.GatherLaws.{gathered-few}
+use Rattle.gather.proofs.GatherLaws.{gathered-few, fromFirst}
 use Rattle.gather.proofs.gather.Statement.{statement}
 use Rattle.gather.proofs.gather.Tie as tie
-use Rattle.gather.specs.Gathers.{fromFirst, withWord}
+use Rattle.gather.specs.Gathers.{withWord}
 use Rattle.page.specs.Spans.{wrapped}
 use borrow.Author.Needs.{needs}
 use borrow.Author.Tests.{le-ltb, lt-ltb}

@@ -1,8 +1,8 @@
--- Written by tools/prove.py from answers/gather.py: answer 301f868529c0, proof 50f1e1da308a.
+-- Written by tools/prove.py from answers/gather.py: answer 733bd30c65cb, proof 9b001c6a6245.
 -- `gather::store_at` meets its contract. Assumes nothing.
 use Rattle.gather.proofs.store_at.Statement.{statement}
 use Rattle.gather.proofs.store_at.Tie as tie
-use Rattle.gather.specs.Stores.{storedOne}
+use Rattle.gather.specs.Gathers.{storedOne}
 use Rattle.page.proofs.SpanLaws.{kept, taken}
 use borrow.Author.Needs.{needs}
 use borrow.Author.Tests.{le-ltb, lt-ltb}

@@ -1,10 +1,10 @@
--- Written by tools/prove.py from answers/needs.py: answer aea7990342e2, proof 292a220d0677.
+-- Written by tools/prove.py from answers/needs.py: answer 47793149d37a, proof 3b85e2ad7ea7.
 -- `needs::immediate` meets its contract. Assumes nothing.
 use Prim.Native.Nat.{ℕ}
 use Rattle.choice.proofs.TableLaws.{tabled}
 use Rattle.decode.specs.Decode.{formClaimed}
 use Rattle.decode.specs.Pages.{pages}
-use Rattle.isa.specs.Accesses.{wordsMoved, wordsOfInteger, wordsOfFloat, wordsRead, wordsWritten}
+use Rattle.isa.specs.Accesses.{wordsRead, wordsWritten}
 use Rattle.isa.specs.Addressing.{inMemory}
 use Rattle.needs.proofs.immediate.Statement.{statement}
 use Rattle.needs.proofs.immediate.Tie as tie
@@ -15,7 +15,7 @@ array-read-result : tie.Need-array-read-result
 array-read-result c = search needs
 
 returns : tie.Need-returns
-unfolding pages numberOf ruleOf countsOf needOf exceptions wayOf wordsRead wordsMoved wordsOfFloat wordsOfInteger wordsWritten inMemory
+unfolding pages numberOf ruleOf countsOf needOf exceptions wayOf wordsRead wordsWritten inMemory
 returns c = tabled (λ (k : ℕ). numberOf (formClaimed 0x4A 0 k)) 16 (c .args .lower) (array-read-result c)
 
 pub immediate-spec : {M : Type 1} → statement M

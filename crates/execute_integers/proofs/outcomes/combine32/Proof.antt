@@ -1,8 +1,7 @@
--- Written by tools/prove.py from answers/execute_integers.py: answer 9c6d27a8cc34, proof e3e21974eaec.
+-- Written by tools/prove.py from answers/execute_integers.py: answer 21e2b727eb90, proof dfaeb56ea707.
 -- `execute_integers::outcomes::combine32` meets its contract. Assumes nothing.
 use Rattle.execute_integers.proofs.outcomes.combine32.Statement.{statement}
 use Rattle.execute_integers.proofs.outcomes.combine32.Tie as tie
-use Rattle.execute_integers.specs.Doubles.{arithmetic}
 use borrow.Author.Needs.{needs}
 use borrow.Author.Tests.{ne-eqb}
 
@@ -10,11 +9,9 @@ pair-at-requires : tie.Need-pair-at-requires
 pair-at-requires c κs = c .pre
 
 returns : tie.Need-returns
-unfolding arithmetic
 returns c = rw (c .before .match .keys1, ← c .before .before .before .pair-at .ensures, ← c .before .before .double-operand .ensures) (c .multiply32 .ensures)
 
 returns-2 : tie.Need-returns-2
-unfolding arithmetic
 returns-2 c = rw (ne-eqb _ _ (c .before .match .rest .1), ← c .before .before .before .pair-at .ensures, ← c .before .before .double-operand .ensures) (c .divide32 .ensures)
 
 pub combine32-spec : {M : Type 1} → statement M

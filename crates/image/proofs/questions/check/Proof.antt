@@ -1,8 +1,9 @@
--- Written by tools/prove.py from answers/image.py: answer 7d159b673389, proof 90f05e147fc2.
+-- Written by tools/prove.py from answers/image.py: answer f2edc70d939f, proof c354df0cf086.
 -- `image::questions::check` meets its contract. Assumes nothing.
 use Rattle.image.proofs.questions.check.Statement.{statement}
 use Rattle.image.proofs.questions.check.Tie as tie
-use Rattle.image.specs.Image.{asked, admission}
+use Rattle.image.specs.Image.{admission}
+use Rattle.machine.specs.Runs.{asked}
 use borrow.Author.Needs.{needs}
 use borrow.Author.Tests.{eq-eqb, ne-eqb, not-true, not-false}
 use mathlib.Core.Path.{refl}

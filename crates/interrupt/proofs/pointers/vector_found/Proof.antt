@@ -1,12 +1,11 @@
--- Written by tools/prove.py from answers/interrupt.py: answer 587997bc032f, proof 24170702dc8e.
+-- Written by tools/prove.py from answers/interrupt.py: answer fb5d52b248d1, proof cf06bd74bc88.
 -- `interrupt::pointers::vector_found` meets its contract. Assumes nothing.
 use Prim.Native.Nat.{_+_, _*_}
-use Rattle.interrupt.proofs.VectorLaws.{inside-at, room-before, inside-before, vector-together}
+use Rattle.interrupt.proofs.VectorLaws.{all-found, not-found, inside-at, room-before, inside-before, vector-together}
 use Rattle.interrupt.proofs.pointers.vector_found.Statement.{statement}
 use Rattle.interrupt.proofs.pointers.vector_found.Tie as tie
-use Rattle.interrupt.specs.Founds.{foundOr}
 use borrow.Author.Needs.{needs}
-use mathlib.Core.Path.{refl, sym, _∙_}
+use mathlib.Core.Path.{sym, _∙_}
 use native.Mathlib.Omega.{arith}
 
 mul-base : tie.Need-mul-base
@@ -16,8 +15,7 @@ shared-slice-read-base : tie.Need-shared-slice-read-base
 shared-slice-read-base c = search (needs, inside-at (c .before .before .before .before .before .before .before .args .memory .now) (c .before .before .before .before .before .before .before .args .pages .now) _ _ (sym (c .before .before .before .before .look-up .ensures) ∙ c .before .before .service .given .1))
 
 returns : tie.Need-returns
-unfolding foundOr
-returns c = refl
+returns c = λ v e. not-found v e
 
 sub-link : tie.Need-sub-link
 sub-link c = omega (arith, room-before (c .before .before .before .before .before .before .before .before .before .before .before .before .before .args .memory .now) (c .before .before .before .before .before .before .before .before .before .before .before .before .before .args .pages .now) (33 + 2 * c .before .before .before .before .before .before .before .before .before .before .before .before .before .args .n) _ 1 (omega arith) (sym (c .before .before .before .before .before .before .before .before .before .before .look-up .ensures) ∙ c .before .before .before .before .before .before .before .before .service .given .1) 1 (omega arith))
@@ -53,16 +51,13 @@ shared-slice-read-ic : tie.Need-shared-slice-read-ic
 shared-slice-read-ic c = search (needs, inside-at (c .before .before .before .before .before .before .before .before .before .before .before .before .before .before .before .before .before .args .memory .now) (c .before .before .before .before .before .before .before .before .before .before .before .before .before .before .before .before .before .args .pages .now) _ _ (sym (c .before .before .before .before .before .before .before .look-up2 .ensures) ∙ c .before .before .before .before .before .last .given .1))
 
 returns-2 : tie.Need-returns-2
-unfolding foundOr
-returns-2 c = sym (vector-together (c .before .before .before .before .before .before .before .before .before .before .before .before .before .before .before .before .before .args .memory .now) (c .before .before .before .before .before .before .before .before .before .before .before .before .before .before .before .before .before .args .pages .now) (c .before .before .before .before .before .before .before .before .before .before .before .before .before .before .before .before .before .args .n) _ _ _ (omega arith) (sym (c .before .before .before .before .before .before .before .before .before .before .before .before .before .before .look-up .ensures) ∙ c .before .before .before .before .before .before .before .before .before .before .before .before .service .given .1) (c .before .before .before .before .before .before .before .before .before .wrapping-add-u16 .ensures) (c .before .before .before .before .before .before .before .before .if1 .left) (sym (c .before .before .before .before .before .before .before .look-up2 .ensures) ∙ c .before .before .before .before .before .last .given .1))
+returns-2 c = λ v e. all-found v _ _ e (vector-together (c .before .before .before .before .before .before .before .before .before .before .before .before .before .before .before .before .before .args .memory .now) (c .before .before .before .before .before .before .before .before .before .before .before .before .before .before .before .before .before .args .pages .now) (c .before .before .before .before .before .before .before .before .before .before .before .before .before .before .before .before .before .args .n) _ _ _ (omega arith) (sym (c .before .before .before .before .before .before .before .before .before .before .before .before .before .before .look-up .ensures) ∙ c .before .before .before .before .before .before .before .before .before .before .before .before .service .given .1) (c .before .before .before .before .before .before .before .before .before .wrapping-add-u16 .ensures) (c .before .before .before .before .before .before .before .before .if1 .left) (sym (c .before .before .before .before .before .before .before .look-up2 .ensures) ∙ c .before .before .before .before .before .last .given .1))
 
 returns-3 : tie.Need-returns-3
-unfolding foundOr
-returns-3 c = refl
+returns-3 c = λ v e. not-found v e
 
 returns-4 : tie.Need-returns-4
-unfolding foundOr
-returns-4 c = refl
+returns-4 c = λ v e. not-found v e
 
 pub vector-found-spec : {M : Type 1} → statement M
 vector-found-spec =

@@ -1,11 +1,11 @@
--- Written by tools/prove.py from answers/one_page.py: answer c050d7512c1b, proof 396356a11bc1.
+-- Written by tools/prove.py from answers/one_page.py: answer 0c5d74dadc5d, proof e2ab333f4adb.
 -- `one_page::rows::push_row` meets its contract. Assumes nothing.
 use Prim.Native.Nat.{_+_}
 use Rattle.isa.specs.Blocks.{pushedFrom}
-use Rattle.one_page.proofs.HereLaws.{stored-none, stored-step}
+use Rattle.one_page.proofs.HereLaws.{downwards, stored-none, stored-step}
 use Rattle.one_page.proofs.rows.push_row.Statement.{statement}
 use Rattle.one_page.proofs.rows.push_row.Tie as tie
-use Rattle.one_page.specs.Rows.{downwards, storedAt}
+use Rattle.one_page.specs.Rows.{storedAt}
 use Rattle.rearrange.proofs.BlockLaws.{pushed-at}
 use borrow.Author.Needs.{needs}
 use lib.ListN.{length, length-set}

@@ -1,10 +1,10 @@
--- Written by tools/prove.py from answers/one_page.py: answer 28fb86220c4b, proof dda4008d54f9.
+-- Written by tools/prove.py from answers/one_page.py: answer a850630e39d3, proof 17adae84d573.
 -- `one_page::rows::store_row` meets its contract. Assumes nothing.
 use Prim.Native.Nat.{_+_, _≤_}
-use Rattle.one_page.proofs.HereLaws.{stored-none, stored-step}
+use Rattle.one_page.proofs.HereLaws.{upwards, stored-none, stored-step}
 use Rattle.one_page.proofs.rows.store_row.Statement.{statement}
 use Rattle.one_page.proofs.rows.store_row.Tie as tie
-use Rattle.one_page.specs.Rows.{upwards, storedAt}
+use Rattle.one_page.specs.Rows.{storedAt}
 use borrow.Author.Needs.{needs}
 use lib.ListN.{length, length-set}
 use mathlib.Core.Path.{_≡_, refl, sym, _∙_}

@@ -1,9 +1,8 @@
 -- `shift::counted::circular16` meets its contract. Assumes nothing.
 use borrow.Author.Needs.{needs}
-use mathlib.Core.Path.{ap, _∙_}
+use mathlib.Core.Path.{ap}
 use Rattle.shift.specs.Shift.{plain, shifted16}
 use Rattle.shift.proofs.CountLaws.{left-within, right-within, left-shifted, right-shifted, not-shifted}
-use Rattle.shift.proofs.ShiftLaws.{right-turn}
 use Rattle.shift.proofs.counted.circular16.Statement.{statement}
 use Rattle.shift.proofs.counted.circular16.Tie as tie
 
@@ -19,7 +18,7 @@ returns c = ap shifted16 (left-shifted 16 _ _ _ _ (c .before .before .before .be
 returns-2 : tie.Need-returns-2
 returns-2 c =
     ap shifted16 (right-shifted 16 _ _ _ _ (c .before .before .before .before .count-of .ensures) (c .before .before .n2 .given .1)
-    (ap plain (c .cyclic162 .ensures ∙ right-turn 16 _ _ (right-within 16 _ (c .before .before .before .before .count-of .ensures) (c .before .before .n2 .given .1)))))
+    (ap plain (c .cyclic162 .ensures)))
 
 returns-3 : tie.Need-returns-3
 returns-3 c = ap shifted16 (not-shifted 16 _ _ _ _ (c .before .before .count-of .ensures) (c .enum-told .given .1))

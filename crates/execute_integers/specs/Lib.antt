@@ -1,2 +1,0 @@
--- The definitions of integer operations.
-pub mod Doubles
