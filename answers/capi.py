@@ -16,8 +16,8 @@ def calls(answer, became):
 
 
 A = {
-    'load/twin1750_load': {'use': [CHAINS, 'Rattle.image.specs.Image as image', CALLS + '{given, loading}', CALL_LAWS], 'unf': {'*': 'loading given'},
+    'call_load/twin1750_load': {'use': [CHAINS, 'Rattle.image.specs.Image as image', CALLS + '{given, loading}', CALL_LAWS], 'unf': {'*': 'loading given'},
         **calls('image.numberOf (@load .ensures .answer-is)', '@load .ensures .became')},
-    'run/twin1750_run': {'use': [CHAINS, RUNS + '{numberOf}', CALLS + '{given, running}', CALL_LAWS], 'unf': {'*': 'running given'},
+    'call_run/twin1750_run': {'use': [CHAINS, RUNS + '{numberOf}', CALLS + '{given, running}', CALL_LAWS], 'unf': {'*': 'running given'},
         **calls('numberOf (@run .ensures .0)', '@run .ensures .1')},
 }

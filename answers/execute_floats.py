@@ -1,8 +1,8 @@
 # The answers from which the proofs of the crate `execute_floats` are written.
 USE = ARITHMETIC
 FLOATS = 'Rattle.isa.specs.Floats.'
-OPERANDS = 'Rattle.float_words.specs.Operands.'
-LAWS = 'Rattle.float_words.proofs.FloatEffects.'
+OPERANDS = 'Rattle.execute_float_words.specs.Operands.'
+LAWS = 'Rattle.execute_float_words.proofs.FloatEffects.'
 LEAVES = ['Rattle.float_add.specs.Add.{sumOf, differenceOf}', 'Rattle.float_mul.specs.Multiply.{productOf}', 'Rattle.float_div.specs.Divide.{quotientOf}',
           'Rattle.float_convert.specs.Convert.{negatedOf, absoluteOf}']
 A_FIELD, ACCUMULATOR = '@field-a .ensures .0', '@accumulator-of .ensures .0'

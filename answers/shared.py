@@ -157,13 +157,13 @@ def keyed(place, *facts):
 KEY, GROUP, SMALL = keyed(1, 'key-is', 'group-is', 'group-small')
 
 
-# any key may run the operation of a way; the words that it reads and writes, k and j where its operand is in memory
-def user(way, fact):
-    return '(way-user (@args .n) %d %s (omega arith))' % (way, fact)
+# any key may run the operation of a path; the words that it reads and writes, k and j where its operand is in memory
+def user(path, fact):
+    return '(path-user (@args .n) %d %s (omega arith))' % (path, fact)
 
 
-def words(kind, way, k, j, fact, regs=REGS):
-    return '(way-%s (@args .n) %d %d %d %s (omega arith) refl refl refl refl refl %s)' % (kind, way, k, j, fact, regs)
+def words(kind, path, k, j, fact, regs=REGS):
+    return '(path-%s (@args .n) %d %d %d %s (omega arith) refl refl refl refl refl %s)' % (kind, path, k, j, fact, regs)
 
 
 # the names that answers use, by module, for answers that do not say what they import

@@ -8,7 +8,7 @@ import re
 import sys
 
 # a crate whose values pass through another one that does not name it
-UNNAMED = {('execute_floats', 'float'), ('vectors', 'machine')}
+UNNAMED = {('execute_floats', 'float'), ('test_cases', 'machine')}
 
 
 def read(path):

@@ -15,8 +15,8 @@ import sys
 # file: the name to unfold, what it opens, the crates in order
 GROUPS = {
     'machine/proofs/Opened': ('machinery', 'of the machine', ['page', 'bits', 'machine']),
-    'isa/proofs/OpenWords': ('words', 'of words, integers and shifts', ['whole', 'word', 'bits', 'fixed', 'divide', 'shift']),
-    'isa/proofs/OpenFloats': ('floats', 'of floats', ['float', 'exact', 'float_add', 'float_mul', 'float_div', 'float_convert']),
+    'isa/proofs/OpenWords': ('words', 'of words, integers and shifts', ['twos_complement', 'word', 'bits', 'fixed_add', 'fixed_muldiv', 'shift']),
+    'isa/proofs/OpenFloats': ('floats', 'of floats', ['float', 'float_exact', 'float_add', 'float_mul', 'float_div', 'float_convert']),
     'isa/proofs/OpenDecoder': ('decoder', 'of decoding', ['decode']),
     'isa/proofs/OpenInstructions': ('instructions', 'of the instruction set', ['isa']),
 }

@@ -17,21 +17,21 @@ from contracts import listed, path_of, read
 
 PAGE = 'docs/TRUST.md'
 FROM, TO = '<!-- tools/trust.py writes from here -->\n', '<!-- tools/trust.py writes up to here -->\n'
-THEOREMS = 'cpu/proofs/Isolated'
+THEOREMS = 'run/proofs/Isolated'
 KIT = ('Prim.', 'mathlib.', 'lib.')
 HEAD = re.compile(r' *(?:(?:unfoldable |abbrev )?(?:pub )?([^\s:()]+) :|(?:pub )?(record|data) (\S+))(?=\s)')
 
 # the reading order: parts, and their files; a crate alone stands for its structs and enums
 ORDER = {
-    'Numbers and words': 'choice/Select choice/Table whole/Whole whole/Normal word/Status word/Pair word/Compare word/Condition bits/Bits bits/Bytes '
-    'fixed/Fixed divide divide/Divide shift shift/Shift float float/Float float/Words float_add/Add exact/Exact exact/Steps float_mul/Multiply float_div/Divide '
+    'Numbers and words': 'choice/Select choice/Table twos_complement/Whole twos_complement/Normal word/Status word/Pair word/Compare word/Condition bits/Bits bits/Bytes '
+    'fixed_add/Fixed fixed_muldiv fixed_muldiv/Divide shift shift/Shift float float/Float float/Words float_add/Add float_exact/Exact float_exact/Steps float_mul/Multiply float_div/Divide '
     'float_convert/Convert',
     'Pages': 'page page/Pages page/Spans',
     'Decoding': 'decode/Modes decode/Forms decode/Pages decode/Decode',
-    'The machine': 'machine machine/State machine/Machine machine/Instructions machine/Entries machine/Step machine/Timelines machine/Runs cpu',
+    'The machine': 'machine machine/State machine/Machine machine/Instructions machine/Entries machine/Step machine/Timelines machine/Runs run',
     'The instruction set': 'isa/Fields isa/Addressing isa/Accesses isa/Effects isa/Words isa/Integers isa/Floats isa/Blocks isa/Execute isa/Commands isa/Mil1750',
-    'Two machines compared': 'machine/Isolation cpu/Calls',
-    'Images': 'reset/Reset image image/Image loader',
+    'Two machines compared': 'machine/Isolation run/Calls',
+    'Images': 'reset/Reset image image/Image image_load',
     'The program': 'report/Report program/Printed',
     'The packed state and the C calls': 'packed/Packed capi/Calls',
 }

@@ -33,7 +33,7 @@ mod stack;
 mod state;
 mod store;
 mod sum;
-pub mod vectors;
+pub mod test_cases;
 
 pub use float::{Float, Outcome, Width, EXTENDED, SINGLE};
 pub use image::load;

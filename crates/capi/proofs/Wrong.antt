@@ -24,9 +24,9 @@ runs words pages = running (replicate words 0) (replicate 4096 0) (replicate pag
 pub rows : List Row
 unfolding machinery calls
 rows =
-    -- load::twin1750_load: another number of packed words is refused by 12; 257 packed words are accepted
+    -- call_load::twin1750_load: another number of packed words is refused by 12; 257 packed words are accepted
     some (loads 256 512 ∷ loads 255 512 ∷ loads 257 512 ∷ []) (0 ∷ 100 ∷ 100 ∷ []) (0 ∷ 12 ∷ 12 ∷ []) (0 ∷ 100 ∷ 0 ∷ [])
-    -- run::twin1750_run: a refused run answers 0; the packed words are asked for last
+    -- call_run::twin1750_run: a refused run answers 0; the packed words are asked for last
     ∷ some (runs 256 512 ∷ runs 256 511 ∷ runs 255 511 ∷ []) (0 ∷ 2 ∷ 100 ∷ []) (0 ∷ 0 ∷ 100 ∷ []) (0 ∷ 2 ∷ 2 ∷ [])
     ∷ []
 

@@ -1,3 +1,3 @@
 -- The laws of several ticks at once.
-pub mod LaterLaws
+pub mod DeferredLaws
 pub mod Wrong

@@ -10,7 +10,7 @@ use Rattle.machine.specs.declared.Clock.{Clock}
 use Rattle.machine.specs.State.{withPi}
 use Rattle.machine.specs.Step.{released, faulted, elapsed, expired}
 use Rattle.machine.proofs.Opened.{machinery}
-use Rattle.clock.specs.Later.{later, roomOf, quietOf}
+use Rattle.clock.specs.Deferred.{afterTicks, ticksLeft, deferrableOf}
 
 -- timer A has room for five ticks, timer B for two
 abbrev c : Clock
@@ -28,12 +28,12 @@ abbrev core : Core
 core = record { ic = 0x0100; sw = 0; mk = 0; pi = 0x0400; ft = 0x0100; enabled = true; hold = true }
 
 pub rows : List Row
-unfolding machinery roomOf quietOf
+unfolding machinery ticksLeft deferrableOf
 rows =
-    -- later::tick_by: timer B raised by each tick; timer A raised by each tenth
-    some (time (later 5 c)) (65535 ∷ 65534 ∷ 10 ∷ []) (65535 ∷ 65538 ∷ 10 ∷ []) (65531 ∷ 65534 ∷ 10 ∷ [])
-    -- later::quiet: timer B not asked; a tick in which timer B passes its end
-    ∷ one (quietOf c 100) 2 5 3
+    -- deferred::tick_by: timer B raised by each tick; timer A raised by each tenth
+    some (time (afterTicks 5 c)) (65535 ∷ 65534 ∷ 10 ∷ []) (65535 ∷ 65538 ∷ 10 ∷ []) (65531 ∷ 65534 ∷ 10 ∷ [])
+    -- deferred::deferrable: timer B not asked; a tick in which timer B passes its end
+    ∷ one (deferrableOf c 100) 2 5 3
     -- time::release: the hold mark kept; interrupts disabled
     ∷ some (let t = released core in flag (t .hold) ∷ flag (t .enabled) ∷ []) (0 ∷ 1 ∷ []) (1 ∷ 1 ∷ []) (0 ∷ 0 ∷ [])
     -- time::fault: PI bit 0 in place of bit 1; the old bits of FT lost
@@ -48,5 +48,5 @@ rows =
     ∷ []
 
 pub rows-hold : T (hold rows)
-unfolding rows machinery roomOf quietOf
+unfolding rows machinery ticksLeft deferrableOf
 rows-hold = tt

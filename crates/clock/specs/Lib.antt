@@ -1,2 +1,2 @@
--- The definition of a clock some ticks later.
-pub mod Later
+-- The definition of deferred ticks.
+pub mod Deferred

@@ -1,3 +1,3 @@
 // The end of a step: a fault, the hold mark, the counter and the timers, one tick or several at once (Scope, "One step", 2, 3 and 6).
-pub mod later;
+pub mod deferred;
 pub mod time;

@@ -7,7 +7,7 @@ use borrow.Author.Tests.{ne-eqb}
 use Rattle.choice.specs.Select.{select, upTo}
 use Rattle.choice.proofs.SelectLaws.{beyond}
 use Rattle.choice.proofs.TestLaws.{both}
-use Rattle.command.specs.Outcome.{Kept}
+use Rattle.command.specs.Transfer.{Kept}
 use Rattle.command.specs.declared.Governed.{Governed}
 use Rattle.command.specs.declared.Governed.the-variants.{Done, Refused}
 

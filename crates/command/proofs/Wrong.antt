@@ -34,7 +34,7 @@ rows =
     some (shown (transferred s (replicate 512 0) (replicate 1024 0) n)) (0x0101 ∷ 0 ∷ 0 ∷ 7 ∷ []) (0x0101 ∷ 0 ∷ 7 ∷ 0 ∷ []) (0x0101 ∷ 7 ∷ 0 ∷ 0 ∷ [])
     -- timers::is_timer: 400B as a timer command; ITB as none
     ∷ some (flag (isTimer 0x400B) ∷ flag (isTimer 0xC00E) ∷ []) (0 ∷ 1 ∷ []) (1 ∷ 1 ∷ []) (0 ∷ 0 ∷ [])
-    -- timers::time: OTB sets timer A; OTB leaves timer B halted
+    -- timers::timer_command: OTB sets timer A; OTB leaves timer B halted
     ∷ some (let t = timerCommand (withClock s (withTbOn (s .clock) false)) 1 0x400E .clock in t .ta ∷ t .tb ∷ flag (t .tbon) ∷ [])
     (0 ∷ 7 ∷ 1 ∷ []) (7 ∷ 0 ∷ 0 ∷ []) (0 ∷ 7 ∷ 0 ∷ [])
     ∷ []

@@ -1,2 +1,2 @@
 -- The definitions of what a privileged operation's code hands back.
-pub mod Outcome
+pub mod Transfer

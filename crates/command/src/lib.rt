@@ -5,9 +5,9 @@ ghost use lib.ListN.{length};
 ghost use Rattle.machine.specs.declared.State.{State};
 ghost use Rattle.machine.specs.State.{joined, withProcessor};
 ghost use Rattle.isa.specs.Commands.{isTimer, transferred};
-ghost use Rattle.command.specs.Outcome.{governed, Kept};
-use access::fields::field_a;
-use access::fields::get;
+ghost use Rattle.command.specs.Transfer.{governed, Kept};
+use addressing::fields::field_a;
+use addressing::fields::get;
 use machine::Core;
 use machine::Instruction;
 
@@ -33,7 +33,7 @@ pub fn transfer(
         ≡ transferred (withProcessor s (joined core (now (regs .entry)))) (now (pages .entry)) (now (ports .entry)) n)
         × Kept r (now (regs .entry)) (now (regs .exit)) × Kept r (now (pages .entry)) (now (pages .exit)) × Kept r (now (ports .entry)) (now (ports .exit)) ⌝ }
 {
-    let next = control::resume(core, n);
+    let next = command_core::resume(core, n);
     let ra = get(regs, field_a(n.first));
     if n.address < 0x8000 {
         return xio::output(next, pages, ports, ra, n.address);

@@ -4,8 +4,8 @@ ghost use Rattle.machine.specs.declared.State.{State};
 ghost use Rattle.machine.specs.declared.Core.{Core};
 ghost use Rattle.machine.specs.State.{joined, withProcessor, withClock, withTa, withTb, withTaOn, withTbOn};
 ghost use Rattle.isa.specs.Commands.{isTimer, timerCommand};
-use access::fields::get;
-use access::fields::put;
+use addressing::fields::get;
+use addressing::fields::put;
 use machine::Clock;
 
 // Whether a command is one of them.
@@ -46,7 +46,7 @@ fn set_timer_b(clock: Clock, tb: u16, on: bool) -> Clock
 }
 
 // A timer command with register k for RA, with any core; any other number leaves clock and registers.
-pub fn time(clock: Clock, regs: &mut [u16; 16], k: u16, command: u16) -> Clock
+pub fn timer_command(clock: Clock, regs: &mut [u16; 16], k: u16, command: u16) -> Clock
     ensures { λ r. ⌜ ((s : State) (core : Core) → withClock (withProcessor s (joined core (now (regs .exit)))) r
         ≡ timerCommand (withClock (withProcessor s (joined core (now (regs .entry)))) clock) k command) ⌝ }
 {

@@ -3,9 +3,9 @@ use Prim.Native.Nat.{ℕ}
 use mathlib.Core.List.{[], _∷_}
 use mathlib.Core.Path.{_≡_, refl}
 use Rattle.word.specs.Pair.{highWord, lowWord}
-use Rattle.fixed.specs.declared.Single.{Single}
-use Rattle.fixed.specs.declared.Double.{Double}
-use Rattle.fixed.specs.Fixed.{Outcome, single, double}
+use Rattle.fixed_add.specs.declared.Single.{Single}
+use Rattle.fixed_add.specs.declared.Double.{Double}
+use Rattle.fixed_add.specs.Fixed.{Outcome, single, double}
 use Rattle.machine.specs.declared.Instruction.{Instruction}
 use Rattle.isa.specs.Effects.{Context, fixedOverflow, result, modified}
 use Rattle.isa.specs.Integers.{singleOutcome, doubleOutcome, memoryOutcome}

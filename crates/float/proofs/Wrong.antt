@@ -6,8 +6,8 @@ use lib.Dec.{T, eqb}
 use lib.IntN.{ℤ, natAbs, subℕ}
 use lib.Signed.{nonNeg, shrZ}
 use Rattle.choice.proofs.Rows.{Row, one, some, hold, flag}
-use Rattle.whole.specs.Whole.{signed, wrap}
-use Rattle.whole.specs.Normal.{normal, moves, distance}
+use Rattle.twos_complement.specs.Whole.{signed, wrap}
+use Rattle.twos_complement.specs.Normal.{normal, moves, distance}
 use Rattle.word.specs.Status.{status}
 use Rattle.float.specs.declared.Float.{Float}
 use Rattle.float.specs.Float.{isZero, floatZero, normalised, given}

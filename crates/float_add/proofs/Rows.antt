@@ -5,8 +5,8 @@ use Prim.Native.Nat.{ℕ}
 use lib.Dec.{T}
 use lib.IntN.{ℤ}
 use Rattle.choice.proofs.Rows.{allOf}
-use Rattle.whole.specs.Whole.{signed, wrap, holds}
-use Rattle.whole.specs.Normal.{normal, moves, distance}
+use Rattle.twos_complement.specs.Whole.{signed, wrap, holds}
+use Rattle.twos_complement.specs.Normal.{normal, moves, distance}
 use Rattle.float.specs.Float.{Result, isZero, overflowed, floatZero, normalised}
 use Rattle.float.specs.Words.{mantissa24, mantissa40, exponentOf, firstWord, secondWord, thirdWord}
 use Rattle.float.proofs.Written.{mantissaIn, exponentIn, written, pendingOf, gives}

@@ -2,8 +2,8 @@
 use mathlib.Core.List.{List, [], _∷_}
 use lib.Dec.{T}
 use Rattle.choice.proofs.Rows.{Row, some, hold}
-use Rattle.whole.specs.Whole.{signed, wrap, holds}
-use Rattle.whole.specs.Normal.{normal, moves, distance}
+use Rattle.twos_complement.specs.Whole.{signed, wrap, holds}
+use Rattle.twos_complement.specs.Normal.{normal, moves, distance}
 use Rattle.float.specs.Float.{isZero, overflowed, floatZero, normalised, given}
 use Rattle.float.proofs.Wrong.{parts}
 use Rattle.float_add.specs.Add.{common, aligned, finished, fitted, sumOf, differenceOf}

@@ -9,9 +9,9 @@ use lib.IntN.{ℤ, pos, negsuc, subℕ, _*ℤ_}
 use lib.Signed.{shrZ, ltZ}
 use lib.Pow.{pow-pos, pow-add}
 use borrow.Author.Tests.{lt-ltb, le-ltb}
-use Rattle.whole.specs.Whole.{signed, wrap}
-use Rattle.whole.proofs.Diff.{order, view, diff-pos, diff-neg, diff-eq, diff-mul, pos-diff}
-use Rattle.whole.proofs.Laws.{wrap-lt}
+use Rattle.twos_complement.specs.Whole.{signed, wrap}
+use Rattle.twos_complement.proofs.Diff.{order, view, diff-pos, diff-neg, diff-eq, diff-mul, pos-diff}
+use Rattle.twos_complement.proofs.Laws.{wrap-lt}
 use Rattle.float.specs.Float.{Excess}
 use Rattle.float_convert.specs.Convert.{compared, comparedOf}
 

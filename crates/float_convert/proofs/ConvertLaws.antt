@@ -9,10 +9,10 @@ use lib.Signed.{mag, quotZ, shrZ}
 use lib.Arith.{digits-div}
 use lib.Pow.{pow-pos, pow-add, pow-mono, shl-lt}
 use borrow.Author.Tests.{lt-ltb, le-ltb}
-use Rattle.whole.specs.Whole.{signed, wrap}
-use Rattle.whole.proofs.Diff.{view, diff-eq, diff-mul, diff-negate, pos-diff}
-use Rattle.whole.proofs.Laws.{signed-diff, signed-mag, signed-wrap, wrap-diff, wrap-wrap, wrap-signed}
-use Rattle.whole.proofs.Normal.{move-below}
+use Rattle.twos_complement.specs.Whole.{signed, wrap}
+use Rattle.twos_complement.proofs.Diff.{view, diff-eq, diff-mul, diff-negate, pos-diff}
+use Rattle.twos_complement.proofs.Laws.{signed-diff, signed-mag, signed-wrap, wrap-diff, wrap-wrap, wrap-signed}
+use Rattle.twos_complement.proofs.Normal.{move-below}
 use Rattle.float.specs.Float.{Half, Excess, normalised}
 use Rattle.float.proofs.MantissaLaws.{low-number, high-number}
 use Rattle.float_convert.specs.Convert.{tooLarge, integerPart, fixedOf, floatOf}

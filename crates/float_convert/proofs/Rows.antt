@@ -5,8 +5,8 @@ use Prim.Native.Nat.{ℕ, _-_}
 use lib.Dec.{T, eqb}
 use lib.IntN.{ℤ}
 use Rattle.choice.proofs.Rows.{allOf}
-use Rattle.whole.specs.Whole.{signed, wrap}
-use Rattle.whole.specs.Normal.{normal, moves, distance}
+use Rattle.twos_complement.specs.Whole.{signed, wrap}
+use Rattle.twos_complement.specs.Normal.{normal, moves, distance}
 use Rattle.float.specs.Float.{Result, isZero, overflowed, floatZero, normalised}
 use Rattle.float.specs.Words.{mantissa24, mantissa40, exponentOf, firstWord, secondWord, thirdWord}
 use Rattle.float.proofs.Written.{mantissaIn, exponentIn, written, pendingOf, gives}

@@ -9,9 +9,9 @@ use lib.IntN.{negℤ}
 use lib.Dec.{eqb}
 use lib.Pow.{pow-pos}
 use borrow.Author.Tests.{eq-eqb, ne-eqb}
-use Rattle.whole.specs.Whole.{signed, wrap}
-use Rattle.whole.proofs.Diff.{order, diff-eq, diff-negate}
-use Rattle.whole.proofs.Laws.{half, signed-low, signed-high, signed-diff, wrap-diff, wrap-signed}
+use Rattle.twos_complement.specs.Whole.{signed, wrap}
+use Rattle.twos_complement.proofs.Diff.{order, diff-eq, diff-negate}
+use Rattle.twos_complement.proofs.Laws.{half, signed-low, signed-high, signed-diff, wrap-diff, wrap-signed}
 use Rattle.float.specs.Float.{overflowed, floatZero}
 use Rattle.float.proofs.FloatLaws.{Is}
 use Rattle.float_convert.specs.Convert.{kept, minusOne, oneHalf, same, negatedOf, absoluteOf}

@@ -2,8 +2,8 @@
 use mathlib.Core.List.{List, [], _∷_}
 use lib.Dec.{T}
 use Rattle.choice.proofs.Rows.{Row, one, some, hold, flag}
-use Rattle.whole.specs.Whole.{signed, wrap}
-use Rattle.whole.specs.Normal.{normal, moves, distance}
+use Rattle.twos_complement.specs.Whole.{signed, wrap}
+use Rattle.twos_complement.specs.Normal.{normal, moves, distance}
 use Rattle.float.specs.Float.{isZero, overflowed, floatZero, normalised, given}
 use Rattle.float.proofs.Wrong.{parts}
 use Rattle.float_convert.specs.Convert.{kept, minusOne, oneHalf, same, negatedOf, absoluteOf}

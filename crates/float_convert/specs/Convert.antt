@@ -5,7 +5,7 @@ use Prim.Native.Nat.{ℕ, _+_, _-_, _^_}
 use lib.IntN.{ℤ, pos, negsuc, negℤ, _*ℤ_}
 use lib.Signed.{nonNeg, ltZ, quotZ}
 use lib.Dec.{ltb, eqb}
-use Rattle.whole.specs.Whole.{wrap}
+use Rattle.twos_complement.specs.Whole.{wrap}
 use Rattle.float.specs.Float.{Result, overflowed, floatZero, normalised}
 
 -- a mantissa and an exponent as they stand

@@ -1,7 +1,7 @@
 // Comparison by exact value (5.94, 5.95), as a condition status.
 ghost use mathlib.Core.Path.{_≡_};
 ghost use Prim.Native.Nat.{_≤_, _<_, _^_};
-ghost use Rattle.whole.specs.Whole.{signed};
+ghost use Rattle.twos_complement.specs.Whole.{signed};
 ghost use Rattle.float_convert.specs.Convert.{comparedOf};
 use float::mantissa;
 

@@ -3,7 +3,7 @@ ghost use mathlib.Core.Path.{_≡_};
 ghost use Prim.Native.Nat.{_+_, _≤_, _<_, _^_};
 ghost use lib.IntN.{pos};
 ghost use lib.Signed.{quotZ};
-ghost use Rattle.whole.specs.Whole.{signed, wrap};
+ghost use Rattle.twos_complement.specs.Whole.{signed, wrap};
 ghost use Rattle.float.specs.Float.{given};
 ghost use Rattle.float_convert.specs.Convert.{tooLarge, fixedOf, floatOf};
 use float::Float;

@@ -1,7 +1,7 @@
 // The negative (5.70) and the absolute value (5.62) of a float.
 ghost use mathlib.Core.Path.{_≡_};
 ghost use Prim.Native.Nat.{_<_, _^_};
-ghost use Rattle.whole.specs.Whole.{signed};
+ghost use Rattle.twos_complement.specs.Whole.{signed};
 ghost use Rattle.float.specs.Float.{given};
 ghost use Rattle.float_convert.specs.Convert.{negatedOf, absoluteOf};
 use float::Float;

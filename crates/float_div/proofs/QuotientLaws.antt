@@ -10,15 +10,15 @@ use lib.Signed.{nonNeg}
 use lib.Dec.{ltb, leb}
 use lib.Pow.{pow-pos, pow-add}
 use borrow.Author.Tests.{lt-ltb, le-ltb, lt-leb, le-leb, eq-eqb, ne-eqb}
-use Rattle.whole.specs.Whole.{withSign}
-use Rattle.whole.proofs.Diff.{order}
+use Rattle.twos_complement.specs.Whole.{withSign}
+use Rattle.twos_complement.proofs.Diff.{order}
 use Rattle.float.specs.Float.{isZero, overflowed, floatZero}
-use Rattle.exact.specs.Exact.{truncated, signsDiffer, overflowOf}
-use Rattle.exact.specs.Steps.{oneIf, Led, signedBy, ranged}
-use Rattle.exact.proofs.Ratios.{less-digit}
-use Rattle.exact.proofs.StepLaws.{led-pos}
-use Rattle.exact.proofs.ExactLaws.{times, by-magnitude, differ-is, over-by, truncated-zero, Value, value-by, exact-float}
-use Rattle.exact.proofs.NarrowLaws.{upperOf, upper-zero, upper-over, upper-cond, truncated-upper, magnitude-wider, signs-wider}
+use Rattle.float_exact.specs.Exact.{truncated, signsDiffer, overflowOf}
+use Rattle.float_exact.specs.Steps.{oneIf, Led, signedBy, ranged}
+use Rattle.float_exact.proofs.Ratios.{less-digit}
+use Rattle.float_exact.proofs.StepLaws.{led-pos}
+use Rattle.float_exact.proofs.ExactLaws.{times, by-magnitude, differ-is, over-by, truncated-zero, Value, value-by, exact-float}
+use Rattle.float_exact.proofs.NarrowLaws.{upperOf, upper-zero, upper-over, upper-cond, truncated-upper, magnitude-wider, signs-wider}
 use Rattle.float_div.specs.Divide.{quotientOf}
 
 -- a * P * P divided by b in two steps, in the base P

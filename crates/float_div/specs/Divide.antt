@@ -5,8 +5,8 @@ use Prim.Native.Nat.{ℕ, _+_, _^_}
 use lib.IntN.{ℤ, pos, natAbs, _*ℤ_}
 use lib.Dec.{ltb, leb}
 use Rattle.float.specs.Float.{Result, isZero, floatZero}
-use Rattle.exact.specs.Exact.{truncated, overflowOf}
-use Rattle.exact.specs.Steps.{oneIf}
+use Rattle.float_exact.specs.Exact.{truncated, overflowOf}
+use Rattle.float_exact.specs.Steps.{oneIf}
 
 -- In the order of the page:
 -- * a zero divisor, or n above 7F, overflows, by the signs of the operands;

@@ -2,11 +2,11 @@
 use mathlib.Core.List.{List, [], _∷_}
 use lib.Dec.{T}
 use Rattle.choice.proofs.Rows.{allOf}
-use Rattle.whole.specs.Whole.{signed, wrap, withSign, floorDiv}
-use Rattle.whole.specs.Normal.{normal}
+use Rattle.twos_complement.specs.Whole.{signed, wrap, withSign, floorDiv}
+use Rattle.twos_complement.specs.Normal.{normal}
 use Rattle.float.specs.Float.{isZero, overflowed, floatZero}
-use Rattle.exact.specs.Exact.{mantissaAt, highest, truncated, signsDiffer, overflowOf}
-use Rattle.exact.proofs.Rows.{Row, plain, over, under, right}
+use Rattle.float_exact.specs.Exact.{mantissaAt, highest, truncated, signsDiffer, overflowOf}
+use Rattle.float_exact.proofs.Rows.{Row, plain, over, under, right}
 use Rattle.float_mul.specs.Multiply.{productOf}
 
 pub rows : List Row

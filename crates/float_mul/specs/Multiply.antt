@@ -5,7 +5,7 @@ use Prim.Native.Nat.{ℕ, _+_, _^_}
 use lib.IntN.{ℤ, pos, _*ℤ_}
 use lib.Dec.{ltb}
 use Rattle.float.specs.Float.{Result, floatZero}
-use Rattle.exact.specs.Exact.{truncated, overflowOf}
+use Rattle.float_exact.specs.Exact.{truncated, overflowOf}
 
 -- In the order of the page:
 -- * n above 7F overflows, by the signs of the operands, and n below 80 underflows; both also where a mantissa is zero;

@@ -1,19 +1,19 @@
 // Floating point multiply, on the 24 or 40 bits of a mantissa in a u64 and the standard's exponent plus 128: callers have both from the words of a float.
 ghost use mathlib.Core.Path.{_≡_};
 ghost use Prim.Native.Nat.{_-_, _*_, _/_, _^_, _≤_, _<_};
-ghost use Rattle.whole.specs.Whole.{signed};
+ghost use Rattle.twos_complement.specs.Whole.{signed};
 ghost use Rattle.float.specs.Float.{given};
-ghost use Rattle.exact.specs.Steps.{oneIf};
+ghost use Rattle.float_exact.specs.Steps.{oneIf};
 ghost use Rattle.float_mul.specs.Multiply.{productOf};
-use exact::finish;
-use exact::largest;
-use exact::lead;
-use exact::one_if;
-use exact::signs_differ;
-use exact::upper;
-use exact::wider;
 use float::Float;
 use float::zero;
+use float_exact::finish;
+use float_exact::largest;
+use float_exact::lead;
+use float_exact::one_if;
+use float_exact::signs_differ;
+use float_exact::upper;
+use float_exact::wider;
 
 // a * b, less 1 where neg, without its last 20 bits, for two magnitudes at the top of 40 bits: by two digits of a, so that each product is below 2^60.
 fn product(a: u64, b: u64, neg: bool) -> u64

@@ -4,7 +4,7 @@ use Prim.Native.Nat.{ℕ, _+_, _/_}
 use mathlib.Core.List.{[], _∷_}
 use lib.IntN.{ℤ}
 use Rattle.choice.specs.Select.{select}
-use Rattle.whole.specs.Whole.{signed}
+use Rattle.twos_complement.specs.Whole.{signed}
 use Rattle.word.specs.Pair.{highWord, lowWord}
 use Rattle.word.specs.Status.{status}
 use Rattle.float.specs.declared.Float.{Float}

@@ -7,9 +7,9 @@ use Rattle.choice.specs.Select.{select}
 use Rattle.word.specs.Pair.{highWord, lowWord}
 use Rattle.bits.specs.Bytes.{exchange}
 use Rattle.word.specs.Compare.{compared, limited}
-use Rattle.divide.specs.declared.Quotient.{Quotient}
-use Rattle.fixed.specs.Fixed.{Outcome, sum, difference, negated, absolute}
-use Rattle.divide.specs.Divide.{product, longProduct, divided, longDivided, quotient}
+use Rattle.fixed_muldiv.specs.declared.Quotient.{Quotient}
+use Rattle.fixed_add.specs.Fixed.{Outcome, sum, difference, negated, absolute}
+use Rattle.fixed_muldiv.specs.Divide.{product, longProduct, divided, longDivided, quotient}
 use Rattle.machine.specs.declared.Instruction.{Instruction}
 use Rattle.machine.specs.Machine.{Effect}
 use Rattle.isa.specs.Fields.{fieldA, register}

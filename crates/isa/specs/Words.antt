@@ -5,7 +5,7 @@ use mathlib.Core.Bool.{cond}
 use mathlib.Core.List.{List, [], _∷_}
 use lib.Dec.{eqb}
 use Rattle.choice.specs.Select.{select}
-use Rattle.whole.specs.Whole.{shiftLeft, shiftRight, shiftArith, rotate}
+use Rattle.twos_complement.specs.Whole.{shiftLeft, shiftRight, shiftArith, rotate}
 use Rattle.word.specs.Pair.{pair, highWord, lowWord}
 use Rattle.word.specs.Status.{status}
 use Rattle.bits.specs.Bits.{setBit, resetBit, testBit}

@@ -76,29 +76,29 @@ pub record Part : Type 0 where
   pub put : State → List ℕ → State
 
 -- a part of several words, of one, and of two that are one number, its high word first
-abbrev pub words : ℕ → ℕ → (State → List ℕ) → (State → List ℕ → State) → Part
-words at n of put = record { first = at; count = n; of = of; put = λ s w. put s (take n (drop at w)) }
+abbrev pub manyWords : ℕ → ℕ → (State → List ℕ) → (State → List ℕ → State) → Part
+manyWords at n of put = record { first = at; count = n; of = of; put = λ s w. put s (take n (drop at w)) }
 
-abbrev pub word : ℕ → (State → ℕ) → (State → ℕ → State) → Part
-word at of put = record { first = at; count = 1; of = λ s. of s ∷ []; put = λ s w. put s (getD w at 0) }
+abbrev pub oneWord : ℕ → (State → ℕ) → (State → ℕ → State) → Part
+oneWord at of put = record { first = at; count = 1; of = λ s. of s ∷ []; put = λ s w. put s (getD w at 0) }
 
-abbrev pub double : ℕ → (State → ℕ) → (State → ℕ → State) → Part
-double at of put =
+abbrev pub twoWords : ℕ → (State → ℕ) → (State → ℕ → State) → Part
+twoWords at of put =
     record { first = at; count = 2; of = λ s. of s / 65536 ∷ of s % 65536 ∷ []; put = λ s w. put s (65536 * getD w at 0 + getD w (suc at) 0) }
 
 -- every part, by its first word; 24 to 30 are kept for later ones. A word that no part has is not looked at, and 0 in a packed state
 unfoldable pub layout : List Part
 layout =
-    words 0 16 (λ s. s .regs) withRegs
-    ∷ word 16 (λ s. s .core .ic) (inCore withIc)
-    ∷ word 17 (λ s. s .core .sw) (inCore withSw)
-    ∷ word 18 (λ s. s .core .mk) (inCore withMk)
-    ∷ word 19 (λ s. s .core .pi) (inCore withPi)
-    ∷ word 20 (λ s. s .core .ft) (inCore withFt)
-    ∷ word 21 marksOf withMarks
-    ∷ word 22 (λ s. s .clock .ta) (inClock withTa)
-    ∷ word 23 (λ s. s .clock .tb) (inClock withTb)
-    ∷ double 32 (λ s. s .clock .count) (inClock withCount)
+    manyWords 0 16 (λ s. s .regs) withRegs
+    ∷ oneWord 16 (λ s. s .core .ic) (inCore withIc)
+    ∷ oneWord 17 (λ s. s .core .sw) (inCore withSw)
+    ∷ oneWord 18 (λ s. s .core .mk) (inCore withMk)
+    ∷ oneWord 19 (λ s. s .core .pi) (inCore withPi)
+    ∷ oneWord 20 (λ s. s .core .ft) (inCore withFt)
+    ∷ oneWord 21 marksOf withMarks
+    ∷ oneWord 22 (λ s. s .clock .ta) (inClock withTa)
+    ∷ oneWord 23 (λ s. s .clock .tb) (inClock withTb)
+    ∷ twoWords 32 (λ s. s .clock .count) (inClock withCount)
     ∷ []
 
 -- the words of a state that some parts make, the others 0; and the state with some parts taken from w

@@ -18,9 +18,9 @@ fn run_and_report(
     ensures { λ r. ⌜ Text (now (out .entry)) (ranText (machine s (now (memory .entry)) (now (pages .entry)) (now (ports .entry)))) (now (out .exit)) r
         × Holds (left mil1750 (machine s (now (memory .entry)) (now (pages .entry)) (now (ports .entry))) (runOf 1000)) (now (memory .exit)) (now (pages .exit)) (now (ports .exit)) ⌝ }
 {
-    let ran = cpu::run::run(s, memory, pages, ports, 1000);
+    let ran = run::run(s, memory, pages, ports, 1000);
     let answer = ran.answer;
-    let refused = cpu::run::number(answer) as u32;
+    let refused = run::number(answer) as u32;
     if refused != 0 {
         return report::refusal(refused, out);
     }
@@ -43,7 +43,7 @@ pub fn text_for(
     if 32768 < input.len() {
         return report::refusal(13, out);
     }
-    let loaded = loader::load(reset::reset_state(), input, memory, pages, ports);
+    let loaded = image_load::load(reset::reset_state(), input, memory, pages, ports);
     let answer = loaded.answer;
     let refused = image::questions::number(answer) as u32;
     if refused != 0 {

@@ -6,9 +6,9 @@ use Prim.Native.Nat.{ℕ, suc, _+_, _-_, _^_, _≤_, _<_}
 use native.Mathlib.Omega.{arith}
 use lib.IntN.{ℤ, pos, negsuc}
 use borrow.Author.Tests.{le-leb, lt-leb}
-use Rattle.whole.specs.Whole.{signed}
-use Rattle.whole.proofs.Diff.{order}
-use Rattle.whole.proofs.Laws.{signed-low, signed-high}
+use Rattle.twos_complement.specs.Whole.{signed}
+use Rattle.twos_complement.proofs.Diff.{order}
+use Rattle.twos_complement.proofs.Laws.{signed-low, signed-high}
 use Rattle.shift.specs.Shift.{Shifted, outcome, countOf, moved, shiftedBy}
 use Rattle.shift.specs.declared.Count.{Count}
 use Rattle.shift.specs.declared.Count.the-variants.{Left, Right, Beyond}

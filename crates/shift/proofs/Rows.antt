@@ -4,7 +4,7 @@ use mathlib.Core.List.{List, [], _∷_}
 use Prim.Native.Nat.{ℕ}
 use lib.Dec.{eqb, T}
 use Rattle.choice.proofs.Rows.{allOf}
-use Rattle.whole.specs.Whole.{signed, wrap, holds, shiftLeft, shiftRight, shiftArith, rotate, signChanges}
+use Rattle.twos_complement.specs.Whole.{signed, wrap, holds, shiftLeft, shiftRight, shiftArith, rotate, signChanges}
 use Rattle.word.specs.Status.{status}
 use Rattle.shift.specs.Shift.{Shifted, countOf, moved, shiftedBy, logicalBy, arithmeticBy, circularBy}
 

@@ -8,10 +8,10 @@ use lib.Bits.{bitOr, or-shifted}
 use lib.IntN.{pos, _*ℤ_}
 use lib.Dec.{ltb, leb}
 use lib.Pow.{pow-pos, shl-exact, shr-lt}
-use Rattle.whole.specs.Whole.{holds, withSign, rotate, signChanges}
-use Rattle.whole.proofs.Laws.{signed-low}
-use Rattle.whole.proofs.Signs.{mul-sign, long-pos, long-neg, parts-high}
-use Rattle.whole.proofs.Shifts.{circle}
+use Rattle.twos_complement.specs.Whole.{holds, withSign, rotate, signChanges}
+use Rattle.twos_complement.proofs.Laws.{signed-low}
+use Rattle.twos_complement.proofs.Signs.{mul-sign, long-pos, long-neg, parts-high}
+use Rattle.twos_complement.proofs.Shifts.{circle}
 
 -- the two ends of a rotation, put together by OR
 pub around : (w n a : ℕ) → n ≤ w → a < 2 ^ w → bitOr (a * 2 ^ n % 2 ^ (w + w)) (a / 2 ^ (w - n)) % 2 ^ w ≡ rotate w n a

@@ -8,9 +8,9 @@ use native.Mathlib.Omega.{arith}
 use lib.Dec.{ltb, leb}
 use lib.Pow.{pow-pos}
 use borrow.Author.Tests.{lt-ltb, le-ltb, le-leb, lt-leb}
-use Rattle.whole.specs.Whole.{shiftLeft, signChanges}
-use Rattle.whole.proofs.Diff.{order}
-use Rattle.whole.proofs.Laws.{half}
+use Rattle.twos_complement.specs.Whole.{shiftLeft, signChanges}
+use Rattle.twos_complement.proofs.Diff.{order}
+use Rattle.twos_complement.proofs.Laws.{half}
 use Rattle.shift.proofs.ShiftLaws.{low-changes, high-changes}
 
 -- the sign bit of w bits

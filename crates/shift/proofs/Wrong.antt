@@ -3,7 +3,7 @@ use Prim.Native.Nat.{ℕ}
 use mathlib.Core.List.{List, [], _∷_}
 use lib.Dec.{T}
 use Rattle.choice.proofs.Rows.{Row, one, some, hold, flag}
-use Rattle.whole.specs.Whole.{signed, wrap, holds, shiftLeft, shiftRight, shiftArith, rotate, signChanges}
+use Rattle.twos_complement.specs.Whole.{signed, wrap, holds, shiftLeft, shiftRight, shiftArith, rotate, signChanges}
 use Rattle.shift.specs.declared.Shifted16.{Shifted16}
 use Rattle.shift.specs.declared.Shifted32.{Shifted32}
 use Rattle.shift.specs.Shift.{countOf, moved, shiftedBy, logicalBy, arithmeticBy, circularBy, shifted16, shifted32}

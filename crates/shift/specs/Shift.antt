@@ -1,11 +1,11 @@
 -- Shifts of w-bit words by a count N in a register: 5.18 to 5.20 at 16 bits, 5.21 to 5.23 at 32.
--- The shifts by a number of places, 5.10 to 5.17, are `shiftLeft`, `shiftRight`, `shiftArith` and `rotate` of `whole`.
+-- The shifts by a number of places, 5.10 to 5.17, are `shiftLeft`, `shiftRight`, `shiftArith` and `rotate` of `twos_complement`.
 -- Assumes nothing.
 use mathlib.Core.Bool.{Bool, true, false, cond}
 use Prim.Native.Nat.{ℕ, suc, _-_}
 use lib.IntN.{ℤ, pos, negsuc}
 use lib.Dec.{leb}
-use Rattle.whole.specs.Whole.{signed, shiftLeft, shiftRight, shiftArith, rotate, signChanges}
+use Rattle.twos_complement.specs.Whole.{signed, shiftLeft, shiftRight, shiftArith, rotate, signChanges}
 use Rattle.shift.specs.declared.Count.{Count}
 use Rattle.shift.specs.declared.Count.the-variants.{Left, Right, Beyond}
 use Rattle.shift.specs.declared.Shifted16.{Shifted16}

@@ -4,7 +4,7 @@ use crate::Shifted16;
 use crate::Shifted32;
 use crate::places;
 ghost use mathlib.Core.Path.{_≡_};
-ghost use Rattle.whole.specs.Whole.{signed};
+ghost use Rattle.twos_complement.specs.Whole.{signed};
 ghost use Rattle.shift.specs.Shift.{countOf, logicalBy, arithmeticBy, circularBy, shifted16, shifted32};
 
 // Where a count word moves a word of the given width.

@@ -2,7 +2,7 @@
 // A fixed count is 1 to 16, and a count in a register is at most the width: every caller meets the bounds.
 ghost use mathlib.Core.Path.{_≡_};
 ghost use Prim.Native.Nat.{_≤_};
-ghost use Rattle.whole.specs.Whole.{shiftLeft, shiftRight, shiftArith, rotate, signChanges};
+ghost use Rattle.twos_complement.specs.Whole.{shiftLeft, shiftRight, shiftArith, rotate, signChanges};
 
 // Left, zeros entering (5.10).
 pub fn left16(a: u16, n: u16) -> u16

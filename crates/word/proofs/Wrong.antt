@@ -2,7 +2,7 @@
 use mathlib.Core.List.{List, [], _∷_}
 use lib.Dec.{T}
 use Rattle.choice.proofs.Rows.{Row, one, some, hold, flag}
-use Rattle.whole.specs.Whole.{signed}
+use Rattle.twos_complement.specs.Whole.{signed}
 use Rattle.word.specs.Compare.{below, compared, limited}
 use Rattle.word.specs.Condition.{jumpTaken, shows, branchTaken}
 use Rattle.word.specs.Pair.{pair, highWord, lowWord}

@@ -1,9 +1,9 @@
-//! The cases of the program `vectors` as its input and its output have them: what each starts from,
+//! The cases of the program `test_cases` as its input and its output have them: what each starts from,
 //! what its first step is about to do, and what came of it.
 
 use crate::forms::{form, Form};
 use crate::opcodes::length;
-use simulator::vectors::{answers, input};
+use simulator::test_cases::{answers, input};
 use std::collections::BTreeMap;
 use std::sync::OnceLock;
 

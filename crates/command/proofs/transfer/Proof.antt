@@ -1,9 +1,9 @@
--- Written by tools/prove.py from answers/command.py: answer 7b0570d9d088, proof 7a593e40bf65.
+-- Written by tools/prove.py from answers/command.py: answer d60cccb36d45, proof 1eccccf58a7e.
 -- `command::transfer` meets its contract. Assumes nothing.
 use Rattle.command.proofs.CommandLaws.{same}
 use Rattle.command.proofs.transfer.Statement.{statement}
 use Rattle.command.proofs.transfer.Tie as tie
-use Rattle.command.specs.Outcome.{governed, Kept}
+use Rattle.command.specs.Transfer.{governed, Kept}
 use borrow.Author.Needs.{needs}
 
 output-requires : tie.Need-output-requires

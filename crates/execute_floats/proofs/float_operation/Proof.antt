@@ -1,13 +1,13 @@
--- Written by tools/prove.py from answers/execute_floats.py: answer c60c5b669587, proof f91bdc5cbd4e.
+-- Written by tools/prove.py from answers/execute_floats.py: answer 9bfc2928e7d9, proof f94a547ede31.
 -- `execute_floats::float_operation` meets its contract. Assumes nothing.
+use Rattle.execute_float_words.proofs.FloatEffects.{combined24-is, combined40-is, changed24-is, compared24-is, compared40-is}
+use Rattle.execute_float_words.specs.Operands.{arithmetic, resigned}
 use Rattle.execute_floats.proofs.float_operation.Statement.{statement}
 use Rattle.execute_floats.proofs.float_operation.Tie as tie
 use Rattle.float_add.specs.Add.{sumOf, differenceOf}
 use Rattle.float_convert.specs.Convert.{negatedOf, absoluteOf}
 use Rattle.float_div.specs.Divide.{quotientOf}
 use Rattle.float_mul.specs.Multiply.{productOf}
-use Rattle.float_words.proofs.FloatEffects.{combined24-is, combined40-is, changed24-is, compared24-is, compared40-is}
-use Rattle.float_words.specs.Operands.{arithmetic, resigned}
 use Rattle.isa.specs.Floats.{floatOperation}
 use borrow.Author.Needs.{needs}
 use borrow.Author.Tests.{ne-eqb}

@@ -3,7 +3,7 @@ use borrow.Author.Needs.{needs}
 use mathlib.Core.Path.{subst}
 use Prim.Native.Nat.{ℕ, _-_, _^_, _<_}
 use native.Mathlib.Omega.{arith}
-use Rattle.exact.proofs.NarrowLaws.{narrow}
+use Rattle.float_exact.proofs.NarrowLaws.{narrow}
 use Rattle.float_div.specs.Divide.{quotientOf}
 use Rattle.float_div.proofs.QuotientLaws.{quotient-upper}
 use Rattle.float_div.proofs.divide.Statement.{statement}

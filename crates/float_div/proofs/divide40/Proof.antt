@@ -6,11 +6,11 @@ use Prim.Native.Nat.{ℕ, _+_, _≤_, _<_}
 use native.Mathlib.Omega.{arith}
 use lib.Dec.{lit≤, leb}
 use lib.IntN.{natAbs}
-use Rattle.whole.specs.Whole.{signed}
+use Rattle.twos_complement.specs.Whole.{signed}
 use Rattle.float.specs.Float.{given}
-use Rattle.exact.specs.Steps.{oneIf, tail}
-use Rattle.exact.proofs.StepLaws.{zero-given, magnitude-fits, tail-low, tail-high}
-use Rattle.exact.proofs.ExactLaws.{oneIf-le, magnitude-zero}
+use Rattle.float_exact.specs.Steps.{oneIf, tail}
+use Rattle.float_exact.proofs.StepLaws.{zero-given, magnitude-fits, tail-low, tail-high}
+use Rattle.float_exact.proofs.ExactLaws.{oneIf-le, magnitude-zero}
 use Rattle.float_div.proofs.QuotientLaws.{quotient-by-zero, quotient-over, quotient-under, quotient-right, quotient-of-zero, quotient-done}
 use Rattle.float_div.proofs.divide40.Statement.{statement}
 use Rattle.float_div.proofs.divide40.Tie as tie

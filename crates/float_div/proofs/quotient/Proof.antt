@@ -3,8 +3,8 @@ use borrow.Author.Needs.{needs}
 use Prim.Native.Nat.{ℕ, _+_, _-_, _*_, _/_, _%_, _^_, _≤_, _<_}
 use native.Mathlib.Nat.{mod-lt, div-lt-iff-lt-mul, le-div-iff-mul-le}
 use native.Mathlib.Omega.{arith}
-use Rattle.exact.specs.Steps.{oneIf}
-use Rattle.exact.proofs.ExactLaws.{oneIf-le}
+use Rattle.float_exact.specs.Steps.{oneIf}
+use Rattle.float_exact.proofs.ExactLaws.{oneIf-le}
 use Rattle.float_div.proofs.QuotientLaws.{long-quotient, quotient-long}
 use Rattle.float_div.proofs.quotient.Statement.{statement}
 use Rattle.float_div.proofs.quotient.Tie as tie

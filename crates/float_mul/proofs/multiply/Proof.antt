@@ -2,7 +2,7 @@
 use borrow.Author.Needs.{needs}
 use Prim.Native.Nat.{_-_}
 use native.Mathlib.Omega.{arith}
-use Rattle.exact.proofs.NarrowLaws.{narrow}
+use Rattle.float_exact.proofs.NarrowLaws.{narrow}
 use Rattle.float_mul.specs.Multiply.{productOf}
 use Rattle.float_mul.proofs.ProductLaws.{product-upper}
 use Rattle.float_mul.proofs.multiply.Statement.{statement}

@@ -5,9 +5,9 @@ use mathlib.Core.Bool.{true, false}
 use native.Mathlib.Nat.{zero-mul, mul-zero}
 use lib.Dec.{lit≤}
 use Rattle.float.specs.Float.{given}
-use Rattle.exact.specs.Steps.{tail}
-use Rattle.exact.proofs.StepLaws.{zero-given, tail-low, tail-high}
-use Rattle.exact.proofs.ExactLaws.{magnitude-zero}
+use Rattle.float_exact.specs.Steps.{tail}
+use Rattle.float_exact.proofs.StepLaws.{zero-given, tail-low, tail-high}
+use Rattle.float_exact.proofs.ExactLaws.{magnitude-zero}
 use Rattle.float_mul.proofs.ProductLaws.{product-over, product-under, product-zero, product-done}
 use Rattle.float_mul.proofs.multiply40.Statement.{statement}
 use Rattle.float_mul.proofs.multiply40.Tie as tie

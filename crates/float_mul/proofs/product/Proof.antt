@@ -4,8 +4,8 @@ use Prim.Native.Nat.{_-_, _*_, _/_, _%_, _^_, _≤_, _<_}
 use native.Mathlib.Nat.{mul-le-mul, mul-pos}
 use native.Mathlib.Omega.{arith}
 use lib.Dec.{lit<}
-use Rattle.exact.specs.Steps.{oneIf}
-use Rattle.exact.proofs.ExactLaws.{oneIf-le}
+use Rattle.float_exact.specs.Steps.{oneIf}
+use Rattle.float_exact.proofs.ExactLaws.{oneIf-le}
 use Rattle.float_mul.proofs.ProductLaws.{long-product, product-long}
 use Rattle.float_mul.proofs.product.Statement.{statement}
 use Rattle.float_mul.proofs.product.Tie as tie

@@ -1,10 +1,10 @@
--- Written by tools/prove.py from answers/command.py: answer 772a1146cc20, proof e2f7be0a2efa.
+-- Written by tools/prove.py from answers/command.py: answer ad401e6931ca, proof 0b4d037b4649.
 -- `command::xio::core_input` meets its contract. Assumes nothing.
 use Rattle.choice.proofs.SelectLaws.{otherwise}
 use Rattle.command.proofs.CommandLaws.{unlisted}
 use Rattle.command.proofs.xio.core_input.Statement.{statement}
 use Rattle.command.proofs.xio.core_input.Tie as tie
-use Rattle.command.specs.Outcome.{governed, Kept}
+use Rattle.command.specs.Transfer.{governed, Kept}
 use Rattle.isa.specs.Commands.{coreCommand, becomes, withRa, faultsRead}
 use borrow.Author.Needs.{needs}
 use borrow.Author.Tests.{le-ltb}

@@ -1,10 +1,10 @@
--- Written by tools/prove.py from answers/command.py: answer e46628c12c61, proof 7e685eae7262.
+-- Written by tools/prove.py from answers/command.py: answer 84bc795b124d, proof 4aa8bafd5436.
 -- `command::xio::core_output` meets its contract. Assumes nothing.
 use Rattle.choice.proofs.SelectLaws.{otherwise}
 use Rattle.command.proofs.CommandLaws.{unlisted}
 use Rattle.command.proofs.xio.core_output.Statement.{statement}
 use Rattle.command.proofs.xio.core_output.Tie as tie
-use Rattle.command.specs.Outcome.{governed}
+use Rattle.command.specs.Transfer.{governed}
 use Rattle.isa.specs.Commands.{coreCommand, becomes}
 use Rattle.machine.specs.State.{joined, withProcessor, withEnabled, withHold}
 use borrow.Author.Needs.{needs}

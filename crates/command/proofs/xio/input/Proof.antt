@@ -1,9 +1,9 @@
--- Written by tools/prove.py from answers/command.py: answer 9db2063ab2eb, proof 07a688fdceda.
+-- Written by tools/prove.py from answers/command.py: answer 3863656fe6c8, proof 69ac2818f1fb.
 -- `command::xio::input` meets its contract. Assumes nothing.
 use Rattle.command.proofs.CommandLaws.{past-outputs}
 use Rattle.command.proofs.xio.input.Statement.{statement}
 use Rattle.command.proofs.xio.input.Tie as tie
-use Rattle.command.specs.Outcome.{governed, Kept}
+use Rattle.command.specs.Transfer.{governed, Kept}
 use Rattle.isa.specs.Commands.{commanded, stateCommand, becomes, withRa}
 use borrow.Author.Needs.{needs}
 use borrow.Author.Tests.{le-leb, lt-leb}

@@ -1,9 +1,9 @@
--- Written by tools/prove.py from answers/command.py: answer aa3eca419f8e, proof 38d475ce26c7.
+-- Written by tools/prove.py from answers/command.py: answer 5b8f22a752bc, proof fbb8fdc0f5a9.
 -- `command::xio::output` meets its contract. Assumes nothing.
 use Rattle.command.proofs.CommandLaws.{same}
 use Rattle.command.proofs.xio.output.Statement.{statement}
 use Rattle.command.proofs.xio.output.Tie as tie
-use Rattle.command.specs.Outcome.{governed, Kept}
+use Rattle.command.specs.Transfer.{governed, Kept}
 use Rattle.isa.specs.Commands.{commanded, stateCommand, becomes}
 use borrow.Author.Needs.{needs}
 use borrow.Author.Tests.{le-leb, lt-leb}

@@ -3,7 +3,7 @@ use borrow.Author.Needs.{needs}
 use mathlib.Core.Path.{_∙_, ap}
 use Prim.Native.Nat.{ℕ, _-_}
 use lib.Dec.{lit≤}
-use Rattle.whole.proofs.Shifts.{arith-low, arith-high}
+use Rattle.twos_complement.proofs.Shifts.{arith-low, arith-high}
 use Rattle.shift.proofs.places.arith32.Statement.{statement}
 use Rattle.shift.proofs.places.arith32.Tie as tie
 

@@ -1,6 +1,6 @@
 -- `shift::places::left32` meets its contract. Assumes nothing.
 use borrow.Author.Needs.{needs}
-use Rattle.whole.proofs.Shifts.{left}
+use Rattle.twos_complement.proofs.Shifts.{left}
 use Rattle.shift.proofs.places.left32.Statement.{statement}
 use Rattle.shift.proofs.places.left32.Tie as tie
 

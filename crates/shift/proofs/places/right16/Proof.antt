@@ -3,7 +3,7 @@ use mathlib.Core.Path.{refl}
 use borrow.Author.Needs.{needs}
 use native.Mathlib.Omega.{arith}
 use lib.Pow.{shr-le}
-use Rattle.whole.specs.Whole.{shiftRight}
+use Rattle.twos_complement.specs.Whole.{shiftRight}
 use Rattle.shift.proofs.places.right16.Statement.{statement}
 use Rattle.shift.proofs.places.right16.Tie as tie
 

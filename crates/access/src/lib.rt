@@ -1,3 +1,0 @@
-// The fields of an instruction and the registers that they name, and the operand of its addressing mode.
-pub mod addressing;
-pub mod fields;

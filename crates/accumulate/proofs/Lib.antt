@@ -1,4 +1,0 @@
--- The laws of the operations that are carried out directly.
-pub mod WayLaws
-pub mod EndLaws
-pub mod Wrong

@@ -1,0 +1,2 @@
+-- The definition of words that lie one after another.
+pub mod Extents

@@ -1,2 +1,0 @@
-// The processor: steps and runs.
-pub mod run;

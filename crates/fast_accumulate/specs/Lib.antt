@@ -1,0 +1,3 @@
+-- The definitions of the operations with a fast path.
+pub mod Paths
+pub mod Ended

@@ -1,0 +1,2 @@
+-- The definition of what each operation needs, as one number.
+pub mod FormNumbers

@@ -1,2 +1,0 @@
--- The definition of what each operation needs, as one number.
-pub mod Needs

@@ -1,2 +1,0 @@
--- The definition of words that lie one after another.
-pub mod Rows

@@ -1,3 +1,0 @@
-// The operations on blocks whose words lie in one page, at once. Callers have 512 page registers.
-pub mod here;
-mod rows;

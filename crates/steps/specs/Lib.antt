@@ -1,2 +1,0 @@
--- What a row of steps comes to.
-pub mod Rows

@@ -1,0 +1,109 @@
+// An input line read: a kind letter, a number and a word, both in four hexadecimal digits, with one blank before each.
+ghost use mathlib.Core.Path.{_≡_};
+ghost use Prim.Native.Nat.{_≤_};
+ghost use Rattle.test_case_line.specs.Lines.{digitOf, wordOf, sizeOf, limitOf, lineOf};
+use crate::Line;
+
+// The value of a hexadecimal digit, letters capital; 16 for any other byte.
+fn digit(byte: u8) -> u32
+    ensures { λ r. ⌜ (r ≡ digitOf byte) × (r ≤ 16) ⌝ }
+{
+    if byte < 48 {
+        return 16;
+    }
+    if byte < 58 {
+        return byte as u32 - 48;
+    }
+    if byte < 65 {
+        return 16;
+    }
+    if byte < 71 {
+        return byte as u32 - 55;
+    }
+    16
+}
+
+// The word of four hexadecimal digits; 65,536 where one of them is none.
+pub(crate) fn word(a: u8, b: u8, c: u8, d: u8) -> u32
+    ensures { λ r. ⌜ (r ≡ wordOf a b c d) × (r ≤ 65536) ⌝ }
+{
+    let first = digit(a);
+    let second = digit(b);
+    let third = digit(c);
+    let fourth = digit(d);
+    if 15 < first {
+        return 65536;
+    }
+    if 15 < second {
+        return 65536;
+    }
+    if 15 < third {
+        return 65536;
+    }
+    if 15 < fourth {
+        return 65536;
+    }
+    first * 4096 + second * 256 + third * 16 + fourth
+}
+
+// How many numbers a kind has; 0 for a byte that is no kind.
+fn size(kind: u8) -> u32
+    ensures { λ r. ⌜ (r ≡ sizeOf kind) × (r ≤ 65536) ⌝ }
+{
+    match kind {
+        b'S' => 26,
+        b'M' => 16384,
+        b'P' => 512,
+        b'O' => 1024,
+        b'L' => 3,
+        b'G' => 65536,
+        _ => 0,
+    }
+}
+
+// The largest word of an entry: a length is at most the words that there are.
+fn limit(kind: u8, number: u32) -> u32
+    ensures { λ r. ⌜ (r ≡ limitOf kind number) × (r ≤ 65535) ⌝ }
+{
+    if kind != b'L' {
+        return 65535;
+    }
+    if number == 0 {
+        return 16384;
+    }
+    if number == 1 {
+        return 512;
+    }
+    1024
+}
+
+// A line of n bytes, of which the first twelve are given.
+pub fn read(line: &[u8; 12], n: usize) -> Line
+    ensures { λ r. ⌜ r ≡ lineOf (now (line .entry)) n ⌝ }
+{
+    if n == 0 {
+        return Line::Malformed;
+    }
+    let kind = line[0];
+    if kind == b'#' {
+        return Line::Remark;
+    }
+    if n != 11 {
+        return Line::Malformed;
+    }
+    if line[1] != b' ' {
+        return Line::Malformed;
+    }
+    if line[6] != b' ' {
+        return Line::Malformed;
+    }
+    let number = word(line[2], line[3], line[4], line[5]);
+    let content = word(line[7], line[8], line[9], line[10]);
+    if size(kind) <= number {
+        return Line::Malformed;
+    }
+    if limit(kind, number) < content {
+        return Line::Malformed;
+    }
+    Line::Entry(kind, number as u16, content as u16)
+}
