@@ -19,6 +19,7 @@ GROUPS = {
     'isa/proofs/OpenFloats': ('floats', 'of floats', ['float', 'float_exact', 'float_add', 'float_mul', 'float_div', 'float_convert']),
     'isa/proofs/OpenDecoder': ('decoder', 'of decoding', ['decode']),
     'isa/proofs/OpenInstructions': ('instructions', 'of the instruction set', ['isa']),
+    'image/proofs/Opened': ('images', 'of reset and of images', ['reset', 'image']),
 }
 DEFINED = re.compile(r'^\s*unfoldable pub (\S+) :', re.M)
 

@@ -5,13 +5,13 @@ use lib.Dec.{T}
 use lib.ListN.{length, replicate}
 use Rattle.choice.proofs.Rows.{Row, some, hold}
 use Rattle.machine.proofs.Opened.{machinery}
-use Rattle.image.specs.Image as image
+use Rattle.image.proofs.Opened.{images}
 use Rattle.packed.specs.Packed.{marks, marked, markAt, marksOf, withMarks, layout, unpacked, packed}
 use Rattle.capi.specs.Calls.{Reply, reply, sized, given, loading, running}
 
 -- opens the definitions of the calls at once
 unfoldable calls : Unit {0}
-unfolding image.wordAt image.longAt image.countOf image.entryAt image.wordsBefore image.tableEnd image.bodyAt image.asked image.unlessRefused image.targetSize image.endOf image.share image.sharesEarlier image.entryAnswer image.entriesAnswer image.imageAnswer image.admission image.answerOf marks marked markAt marksOf withMarks layout unpacked packed reply sized given loading running
+unfolding marks marked markAt marksOf withMarks layout unpacked packed reply sized given loading running
 calls = tt
 
 -- the answer to loading an image of no entries, and to a run of no steps, with so many packed words and page registers
@@ -22,7 +22,7 @@ abbrev runs : ℕ → ℕ → ℕ
 runs words pages = running (replicate words 0) (replicate 4096 0) (replicate pages 0) (replicate 1024 0) 0 .answer
 
 pub rows : List Row
-unfolding machinery calls
+unfolding machinery images calls
 rows =
     -- call_load::twin1750_load: another number of packed words is refused by 12; 257 packed words are accepted
     some (loads 256 512 ∷ loads 255 512 ∷ loads 257 512 ∷ []) (0 ∷ 100 ∷ 100 ∷ []) (0 ∷ 12 ∷ 12 ∷ []) (0 ∷ 100 ∷ 0 ∷ [])
@@ -31,5 +31,5 @@ rows =
     ∷ []
 
 pub rows-hold : T (hold rows)
-unfolding rows machinery calls
+unfolding rows machinery images calls
 rows-hold = tt

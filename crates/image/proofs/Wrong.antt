@@ -4,15 +4,10 @@ use mathlib.Core.List.{List, [], _∷_, _++_}
 use lib.Dec.{T}
 use Rattle.choice.specs.Table.{tableOf}
 use Rattle.choice.proofs.Rows.{Row, one, some, hold}
-use Rattle.machine.specs.Runs.{wholePages}
-use Rattle.image.specs.declared.Loading.{Loading}
+use Rattle.machine.proofs.Opened.{machinery}
 use Rattle.image.specs.declared.Loading.the-variants.{Accepted, BadMemory, BadPages, BadPorts, NoCount, ManyEntries, ShortTable, BadKind, BadRange, SharedWord, BadBodies}
-use Rattle.image.specs.Image.{wordAt, longAt, countOf, entryAt, wordsBefore, tableEnd, bodyAt, numberOf, asked, unlessRefused, targetSize, endOf, share, sharesEarlier, entryAnswer, entriesAnswer, imageAnswer, admission}
-
--- opens the definitions of the questions at once
-unfoldable questions : Unit {0}
-unfolding wholePages wordAt longAt countOf entryAt wordsBefore tableEnd bodyAt asked unlessRefused targetSize endOf share sharesEarlier entryAnswer entriesAnswer imageAnswer admission
-questions = tt
+use Rattle.image.specs.Image.{wordAt, countOf, entryAt, numberOf, admission}
+use Rattle.image.proofs.Opened.{images}
 
 -- each byte is its number
 abbrev image : List ℕ
@@ -23,7 +18,7 @@ abbrev answered : ℕ → ℕ → List ℕ → ℕ
 answered kind n body = numberOf (admission ((0 ∷ 1 ∷ 0 ∷ kind ∷ 0 ∷ 0 ∷ 0 ∷ 0 ∷ 0 ∷ 0 ∷ 0 ∷ n ∷ []) ++ body) 4096 512 1024)
 
 pub rows : List Row
-unfolding questions
+unfolding machinery images
 rows =
     -- table::word_at: the least significant byte first; the word before
     one (wordAt image 3) 0x0304 0x0403 0x0203
@@ -44,5 +39,5 @@ rows =
     ∷ []
 
 pub rows-hold : T (hold rows)
-unfolding rows questions
+unfolding rows machinery images
 rows-hold = tt

@@ -9,8 +9,8 @@ use Rattle.machine.specs.declared.State.{State}
 use Rattle.machine.specs.Machine.{Machine, machine}
 use Rattle.machine.proofs.Opened.{machinery}
 use Rattle.machine.proofs.Samples.{groups, parts, sameMachine}
-use Rattle.reset.specs.Reset.{cycle, resetPages, resetMachine}
-use Rattle.image.specs.Image.{wordAt, longAt, countOf, entryAt, wordsBefore, tableEnd, bodyAt, wordsFrom, numberOf, unlessRefused, targetSize, endOf, share, sharesEarlier, entryAnswer, entriesAnswer, imageAnswer, admission, answerOf, controlOf, withControl, withWords, withBody, withBodies, loaded, afterLoading}
+use Rattle.image.specs.Image.{numberOf, answerOf, afterLoading}
+use Rattle.image.proofs.Opened.{images}
 
 -- ---- machines
 
@@ -61,7 +61,7 @@ pub data Row : Type 0 where
   refuses : ℕ → ℕ → ℕ → List ℕ → ℕ → Row
 
 unfoldable pub right : Row → Bool
-unfolding machinery cycle resetPages resetMachine wordAt longAt countOf entryAt wordsBefore tableEnd bodyAt wordsFrom unlessRefused targetSize endOf share sharesEarlier entryAnswer entriesAnswer imageAnswer admission answerOf controlOf withControl withWords withBody withBodies loaded afterLoading
+unfolding machinery images
 right (loads memory b ws ps s) =
     let x = afterLoading b (given memory 512 1024) in
     eqb (numberOf (answerOf b (given memory 512 1024))) 0

@@ -3,14 +3,9 @@ use mathlib.Core.List.{List, [], _∷_}
 use lib.Dec.{T}
 use Rattle.choice.proofs.Rows.{Row, some, hold}
 use Rattle.machine.proofs.Opened.{machinery}
-use Rattle.reset.specs.Reset.{cycle, resetPages, resetMachine}
-use Rattle.image.specs.Image.{wordAt, longAt, countOf, entryAt, wordsBefore, tableEnd, bodyAt, wordsFrom, asked, unlessRefused, targetSize, endOf, share, sharesEarlier, entryAnswer, entriesAnswer, imageAnswer, admission, answerOf, controlOf, withControl, withWords, withBody, withBodies, loaded, afterLoading}
+use Rattle.image.specs.Image.{controlOf, afterLoading}
+use Rattle.image.proofs.Opened.{images}
 use Rattle.image_load.proofs.Rows.{given, entry, image}
-
--- opens the definitions of images at once
-unfoldable images : Unit {0}
-unfolding cycle resetPages resetMachine wordAt longAt countOf entryAt wordsBefore tableEnd bodyAt wordsFrom asked unlessRefused targetSize endOf share sharesEarlier entryAnswer entriesAnswer imageAnswer admission answerOf controlOf withControl withWords withBody withBodies loaded afterLoading
-images = tt
 
 pub rows : List Row
 unfolding machinery images

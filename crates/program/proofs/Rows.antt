@@ -7,8 +7,7 @@ use Rattle.isa.proofs.OpenWords.{words}
 use Rattle.isa.proofs.OpenFloats.{floats}
 use Rattle.isa.proofs.OpenDecoder.{decoder}
 use Rattle.isa.proofs.OpenInstructions.{instructions}
-use Rattle.reset.specs.Reset.{cycle, resetPages, resetMachine}
-use Rattle.image.specs.Image as image
+use Rattle.image.proofs.Opened.{images}
 use Rattle.report.specs.Report.{digit, hex, leading, decimal, stepsLine, named, controlLine, registers, registersLine, reportOf, refusalOf}
 use Rattle.report.proofs.Rows.{exampleLines}
 use Rattle.program.specs.Printed.{unless, lengthNumber, loadNumber, ranText, printed}
@@ -19,10 +18,10 @@ example = 0 ∷ 1 ∷ 0 ∷ 1 ∷ 0 ∷ 0 ∷ 0 ∷ 0 ∷ 0 ∷ 0 ∷ 0 ∷ 2 �
 
 -- the Scope's four lines
 example-lines : printed example ≡ exampleLines
-unfolding words floats decoder instructions machinery cycle resetPages resetMachine image.wordAt image.longAt image.countOf image.entryAt image.wordsBefore image.tableEnd image.bodyAt image.wordsFrom image.unlessRefused image.targetSize image.endOf image.share image.sharesEarlier image.entryAnswer image.entriesAnswer image.imageAnswer image.admission image.controlOf image.withControl image.withWords image.withBody image.withBodies digit hex leading decimal stepsLine named controlLine registers registersLine reportOf refusalOf unless lengthNumber loadNumber image.loaded ranText printed
+unfolding words floats decoder instructions machinery digit hex leading decimal stepsLine named controlLine registers registersLine reportOf refusalOf unless lengthNumber loadNumber ranText printed images
 example-lines = refl
 
 -- "refused 6"
 nothing-refused : printed [] ≡ 114 ∷ 101 ∷ 102 ∷ 117 ∷ 115 ∷ 101 ∷ 100 ∷ 32 ∷ 54 ∷ 10 ∷ []
-unfolding machinery cycle resetPages resetMachine image.wordAt image.longAt image.countOf image.entryAt image.wordsBefore image.tableEnd image.bodyAt image.wordsFrom image.unlessRefused image.targetSize image.endOf image.share image.sharesEarlier image.entryAnswer image.entriesAnswer image.imageAnswer image.admission image.controlOf image.withControl image.withWords image.withBody image.withBodies digit hex leading decimal stepsLine named controlLine registers registersLine reportOf refusalOf unless lengthNumber loadNumber image.loaded ranText printed
+unfolding machinery digit hex leading decimal stepsLine named controlLine registers registersLine reportOf refusalOf unless lengthNumber loadNumber ranText printed images
 nothing-refused = refl

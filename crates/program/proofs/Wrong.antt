@@ -9,15 +9,14 @@ use Rattle.isa.proofs.OpenWords.{words}
 use Rattle.isa.proofs.OpenFloats.{floats}
 use Rattle.isa.proofs.OpenDecoder.{decoder}
 use Rattle.isa.proofs.OpenInstructions.{instructions}
-use Rattle.reset.specs.Reset.{cycle, resetPages, resetMachine}
-use Rattle.image.specs.Image as image
+use Rattle.image.proofs.Opened.{images}
 use Rattle.report.specs.Report.{digit, hex, leading, decimal, stepsLine, named, controlLine, registers, registersLine, reportOf, refusalOf}
-use Rattle.program.specs.Printed.{unless, lengthNumber, loadNumber, started, ranText, printed}
+use Rattle.program.specs.Printed.{unless, lengthNumber, loadNumber, ranText, printed}
 use Rattle.program.proofs.Rows.{example}
 
--- opens the definitions of images and of texts at once
+-- opens the definitions of texts at once
 unfoldable texts : Unit {0}
-unfolding cycle resetPages resetMachine image.wordAt image.longAt image.countOf image.entryAt image.wordsBefore image.tableEnd image.bodyAt image.wordsFrom image.asked image.unlessRefused image.targetSize image.endOf image.share image.sharesEarlier image.entryAnswer image.entriesAnswer image.imageAnswer image.admission image.controlOf image.withControl image.withWords image.withBody image.withBodies digit hex leading decimal stepsLine named controlLine registers registersLine reportOf refusalOf unless lengthNumber loadNumber started ranText printed
+unfolding digit hex leading decimal stepsLine named controlLine registers registersLine reportOf refusalOf unless lengthNumber loadNumber ranText printed
 texts = tt
 
 -- "refused 12", "refused 13"
@@ -28,7 +27,7 @@ abbrev refused13 : List ℕ
 refused13 = 114 ∷ 101 ∷ 102 ∷ 117 ∷ 115 ∷ 101 ∷ 100 ∷ 32 ∷ 49 ∷ 51 ∷ 10 ∷ []
 
 pub rows : List Row
-unfolding words floats decoder instructions machinery texts
+unfolding words floats decoder instructions machinery images texts
 rows =
     -- text_for: an input that is too long is refused by 12; an input of 32,768 bytes is refused by its length
     some (printed (replicate 32768 0) ++ printed (replicate 32769 0)) (refused12 ++ refused13) (refused12 ++ refused12) (refused13 ++ refused13)
@@ -40,5 +39,5 @@ rows =
     ∷ []
 
 pub rows-hold : T (hold rows)
-unfolding rows words floats decoder instructions machinery texts
+unfolding rows words floats decoder instructions machinery images texts
 rows-hold = tt
