@@ -12,7 +12,7 @@ use Rattle.machine.proofs.MachineLaws.{became-machine}
 use Rattle.image.specs.declared.Loading.{Loading}
 use Rattle.image.specs.Image as image
 use Rattle.report.specs.Report.{refusalOf}
-use Rattle.program.specs.Printed.{memorySize, pagesSize, portsSize, unless, lengthNumber, loadNumber, ranText, printed, afterwards, Holds}
+use Rattle.program.specs.Printed.{unless, lengthNumber, loadNumber, started, ranText, printed, afterwards, Holds}
 
 -- a machine holds its own lists, and what became of another
 pub holds-own : (x y : Machine) → y ≡ x → Holds y (x .memory) (x .pages) (x .ports)
@@ -39,7 +39,7 @@ pub refused : (b : List ℕ) (n : ℕ) → length b ≤ 32768 → n ≡ loadNumb
 unfolding printed unless lengthNumber
 refused b n h e z = rw (le-leb _ _ h, ← e, ne-eqb _ _ z) refl
 
-pub accepted : (b : List ℕ) (n : ℕ) → length b ≤ 32768 → n ≡ loadNumber b → n ≡ 0 → printed b ≡ ranText (image.loaded b memorySize pagesSize portsSize)
+pub accepted : (b : List ℕ) (n : ℕ) → length b ≤ 32768 → n ≡ loadNumber b → n ≡ 0 → printed b ≡ ranText (started b)
 unfolding printed unless lengthNumber
 accepted b n h e z = rw (le-leb _ _ h, ← e, eq-eqb _ _ z) refl
 
@@ -47,19 +47,19 @@ pub refused-left : (b : List ℕ) (x : Machine) (n : ℕ) → length b ≤ 32768
 unfolding afterwards lengthNumber
 refused-left b x n h e z = rw (le-leb _ _ h, ← e, ne-eqb _ _ z) refl
 
-pub accepted-left : (b : List ℕ) (x : Machine) (n : ℕ) → length b ≤ 32768 → n ≡ loadNumber b → n ≡ 0 → afterwards b x ≡ left mil1750 (image.loaded b memorySize pagesSize portsSize) (runOf 1000)
+pub accepted-left : (b : List ℕ) (x : Machine) (n : ℕ) → length b ≤ 32768 → n ≡ loadNumber b → n ≡ 0 → afterwards b x ≡ left mil1750 (started b) (runOf 1000)
 unfolding afterwards lengthNumber
 accepted-left b x n h e z = rw (le-leb _ _ h, ← e, eq-eqb _ _ z) refl
 
 -- loading on a machine x of the program's sizes
-module _ (b : List ℕ) (x : Machine) (memory : length (x .memory) ≡ memorySize) (pages : length (x .pages) ≡ pagesSize) (ports : length (x .ports) ≡ portsSize) where
+module _ (b : List ℕ) (x : Machine) (memory : length (x .memory) ≡ 16384) (pages : length (x .pages) ≡ 512) (ports : length (x .ports) ≡ 1024) where
   -- its number is the definition's
   pub number-is : (a : Loading) (n : ℕ) → n ≡ image.numberOf a → a ≡ image.answerOf b x → n ≡ loadNumber b
   unfolding loadNumber image.answerOf
   number-is a n e f = e ∙ ap image.numberOf f ∙ rw (memory, pages, ports) refl
 
   -- and an accepted one leaves the machine that the run starts from
-  pub machine-is : (a : Loading) (n : ℕ) (s : State) (m g o : List ℕ) → n ≡ image.numberOf a → n ≡ 0 → image.Outcome b x a s m g o → machine s m g o ≡ image.loaded b memorySize pagesSize portsSize
+  pub machine-is : (a : Loading) (n : ℕ) (s : State) (m g o : List ℕ) → n ≡ image.numberOf a → n ≡ 0 → image.Outcome b x a s m g o → machine s m g o ≡ started b
   unfolding image.afterLoading
   machine-is a n s m g o e z h =
       became-machine (h .became) ∙ rw (eq-eqb (image.numberOf (image.answerOf b x)) 0 (ap image.numberOf (sym (h .answer-is)) ∙ sym e ∙ z), memory, pages, ports) refl

@@ -10,17 +10,7 @@ use Rattle.isa.specs.Mil1750.{mil1750}
 use Rattle.image.specs.Image as image
 use Rattle.report.specs.Report.{reportOf, refusalOf}
 
--- the program's sizes: words of memory, page registers, ports
-abbrev pub memorySize : ℕ
-memorySize = 16384
-
-abbrev pub pagesSize : ℕ
-pagesSize = 512
-
-abbrev pub portsSize : ℕ
-portsSize = 1024
-
--- its steps
+-- the program's steps
 abbrev pub budget : ℕ
 budget = 1000
 
@@ -32,9 +22,13 @@ unless number rest = cond (eqb number 0) rest (refusalOf number)
 unfoldable pub lengthNumber : List ℕ → ℕ
 lengthNumber b = cond (leb (length b) 32768) 0 13
 
--- the loader's questions
+-- the loader's questions, with 16,384 words of memory, 512 page registers and 1,024 ports
 unfoldable pub loadNumber : List ℕ → ℕ
-loadNumber b = image.numberOf (image.admission b memorySize pagesSize portsSize)
+loadNumber b = image.numberOf (image.admission b 16384 512 1024)
+
+-- the machine that an accepted image makes
+abbrev pub started : List ℕ → Machine
+started b = image.loaded b 16384 512 1024
 
 -- the text after a run on the machine x
 unfoldable pub ranText : Machine → List ℕ
@@ -42,11 +36,11 @@ ranText x = unless (numberOf (answerOf x (runOf budget))) (reportOf budget (left
 
 -- the program: the length, the loader's questions, the run
 unfoldable pub printed : List ℕ → List ℕ
-printed b = unless (lengthNumber b) (unless (loadNumber b) (ranText (image.loaded b memorySize pagesSize portsSize)))
+printed b = unless (lengthNumber b) (unless (loadNumber b) (ranText (started b)))
 
 -- the machine after it, from the machine x that it holds: a refusal leaves that as it was
 unfoldable pub afterwards : List ℕ → Machine → Machine
-afterwards b x = cond (eqb (lengthNumber b) 0) (cond (eqb (loadNumber b) 0) (left mil1750 (image.loaded b memorySize pagesSize portsSize) (runOf budget)) x) x
+afterwards b x = cond (eqb (lengthNumber b) 0) (cond (eqb (loadNumber b) 0) (left mil1750 (started b) (runOf budget)) x) x
 
 -- memory, page registers and ports are those of the machine x
 abbrev pub Holds : Machine → List ℕ → List ℕ → List ℕ → Type 0
