@@ -168,5 +168,3 @@ module _ (regs : List ℕ) (n : Instruction) (need : ℕ) (e : need ≡ needOf (
 
   pub writes-span : (start count : ℕ) → start ≡ writesOf regs n .start → count ≡ writesOf regs n .count → spanFrom start count ≡ writesOf regs n
   writes-span = marked (writesOf regs n) (need / 32 % 2) _ _ _ register-written operand-written
-
--- ---- the way of an operation that is carried out directly

@@ -24,7 +24,7 @@ use Rattle.instruction_retired.proofs.RetiredLaws.{command-none}
 use Rattle.run_batch.specs.declared.Segment.{Segment}
 use Rattle.run_batch.specs.Batch.{deferredAt, due}
 
--- the row that ends with an instruction, after which n steps of the stretch are made
+-- the segment that ends with an instruction, after which n ticks are deferred
 abbrev pub segmentOf : Retired → ℕ → Segment
 segmentOf v n = record { core = v .core; deferred = n; command = v .command; ra = v .ra }
 
