@@ -1,9 +1,9 @@
 # The answers from which the proofs of the crate `image` are written.
-# the questions to an entry and to an image: each exit cites what was found before it
+# the questions to an entry and to a table: each exit cites what was found before it
 ENTRY = '_ _ _ _ (@entry-at .ensures)'
 ANSWERABLE = '%s (@if1 .left) (@if2 .left) (@if3 .left) _ (@target-size .ensures) _ (@end .ensures)' % ENTRY
-COUNTED = '_ _ (@if1 .left) _ (@count .ensures .0)'
-TABLE = '%s (@if2 .left) (@if3 .left) _ (@check-entries .ensures) _ (@number .ensures)' % COUNTED
+COUNTED = '_ _ _ (@count .ensures .0)'
+TABLE = '%s (@if1 .left) (@if2 .left) _ (@check-entries .ensures) _ (@number .ensures)' % COUNTED
 # those to the sizes
 WHOLE = '← @whole-pages .ensures, not-false (@whole-pages .result) (@if1 .left)'
 # the loop over the earlier entries: the entry before those that are left is compared
@@ -15,7 +15,7 @@ A = importing({
     'Rattle.image.specs.Image': 'wordAt longAt countOf entryAt wordsBefore targetSize endOf share sharesEarlier entriesAnswer admission',
     'Rattle.machine.specs.Runs': 'asked',
     'Rattle.image.proofs.QuestionLaws': 'words-more shares-none shares-here shares-on kind-below kind-above no-words outside shared entry-right '
-        'entries-none entries-on entries-out no-count many-entries short-table bad-entry bad-bodies image-right',
+        'entries-none entries-on entries-out no-bytes no-count by-table many-entries short-table bad-entry bad-bodies table-right',
 }, {
     'table/word_at': {'unf': {'*': 'wordAt'}, 'returns': 'rw (@wide .ensures .0, @wide2 .ensures .0) refl'},
     'table/long_at': {'unf': {'*': 'longAt'}, 'returns': 'rw (@word-at .ensures, @word-at2 .ensures) refl'},
@@ -50,10 +50,12 @@ A = importing({
         'returns': 'entries-out %s (@if1 .taken) ∙ sym (@loop .inv .1)' % ANSWERED,
         'loop-again': '(omega arith, @loop .inv .1 ∙ entries-on %s (@if1 .left))' % ANSWERED,
         'returns-2': 'sym (@loop .inv .1 ∙ entries-none _ _ _ _ (@loop-test .left))'},
-    'questions/check_image': {
-        'returns': 'no-count _ _ (@if1 .taken)', 'returns-2': 'many-entries %s (@if2 .taken)' % COUNTED, 'returns-3': 'short-table %s (@if2 .left) (@if3 .taken)' % COUNTED,
-        'returns-4': 'bad-entry %s (@if4 .taken)' % TABLE, 'returns-5': 'bad-bodies %s (@if4 .left) _ (@words-before .ensures .0) (@if5 .taken)' % TABLE,
-        'returns-6': 'image-right %s (@if4 .left) _ (@words-before .ensures .0) (@if5 .left)' % TABLE},
+    'questions/check_table': {
+        'returns': 'many-entries %s (@if1 .taken)' % COUNTED, 'returns-2': 'short-table %s (@if1 .left) (@if2 .taken)' % COUNTED,
+        'returns-3': 'bad-entry %s (@if3 .taken)' % TABLE, 'returns-4': 'bad-bodies %s (@if3 .left) _ (@words-before .ensures .0) (@if4 .taken)' % TABLE,
+        'returns-5': 'table-right %s (@if3 .left) _ (@words-before .ensures .0) (@if4 .left)' % TABLE},
+    'questions/check_image': {'check-table-requires': '@if2 .left',
+        'returns': 'no-bytes _ _ (@if1 .taken)', 'returns-2': 'no-count _ _ (@if1 .left) (@if2 .taken)', 'returns-3': '@check-table .ensures ∙ by-table _ _ (@if1 .left) (@if2 .left)'},
     'questions/check': {'unf': {'*': 'admission asked'},
         'returns': 'rw (← @whole-pages .ensures, not-true (@whole-pages .result) (@if1 .taken)) refl',
         'returns-2': 'rw (%s, ne-eqb _ _ (@if2 .taken)) refl' % WHOLE, 'returns-3': 'rw (%s, eq-eqb _ _ (@if2 .left), ne-eqb _ _ (@if3 .taken)) refl' % WHOLE,

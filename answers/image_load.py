@@ -1,13 +1,13 @@
 # The answers from which the proofs of the crate `image_load` are written.
 # the loop over the bodies: the bytes of the first of those that are left are within the image
-INSIDE = 'body-inside _ _ _ (@entry-at .ensures) _ (@loop .inv .1) _ (image-sound _ _ (@Start .pre .0)) _ (@loop .inv .0) (@loop-test .taken)'
+INSIDE = 'body-inside _ _ _ (@entry-at .ensures) _ (@loop .inv .1) _ (table-sound _ _ (@Start .pre .0) (@Start .pre .1)) _ (@loop .inv .0) (@loop-test .taken)'
 
 A = importing({
     'Rattle.image.specs.Image': 'countOf wordsBefore tableEnd bodyAt wordsFrom numberOf entriesAnswer controlOf withControl withBodies',
-    'Rattle.image.proofs.SoundLaws': 'entries-within entries-rest image-sound ready',
+    'Rattle.image.proofs.SoundLaws': 'entries-within entries-rest table-sound ready',
     'Rattle.image_load.proofs.BodyLaws': 'words-none words-step bodies-none bodies-step body-next body-inside table-inside '
         'within-memory within-pages within-registers within-control to-memory to-pages to-registers to-control',
-    'Rattle.image_load.proofs.LoadLaws': 'refused accepted',
+    'Rattle.image_load.proofs.LoadLaws': 'refused bare accepted',
 }, {
     'write_words': {'default': 'omega arith',
         'Inv-loop': '(length words ≡ length words₀) × (i + left ≤ length words₀) × (from + 2 * left ≤ length image) '
@@ -32,10 +32,10 @@ A = importing({
         'Inv-loop': '(k + left ≡ countOf image) × (at ≡ bodyAt image k) × (numberOf (entriesAnswer (length memory₀) image left k) ≡ 0) '
             '× (length memory ≡ length memory₀) × (length pages ≡ length pages₀) '
             '× ((ports : List ℕ) → withBodies image (countOf image) 0 (machine t₀ memory₀ pages₀ ports) ≡ withBodies image left k (machine t memory pages ports))', 'μ-loop': 'left',
-        'count-requires': 'image-sound _ _ (@Start .pre .0) .counted',
-        'loop-holds': 'let e = @count .ensures .0 in (omega (arith, e), omega (arith, e), rw e (image-sound _ _ (@Start .pre .0) .entries), refl, refl, λ ports. rw e refl)',
-        'entry-at-requires': 'table-inside _ _ (image-sound _ _ (@Start .pre .0)) _ _ (@loop .inv .0) (@loop-test .taken)',
-        'write-body-requires': '(entries-within _ _ _ _ (@loop-test .taken) (@loop .inv .2) _ (@entry-at .ensures) _ (@loop .inv .3), @loop .inv .4 ∙ @Start .pre .1, %s)' % INSIDE,
+        'count-requires': 'table-sound _ _ (@Start .pre .0) (@Start .pre .1) .counted',
+        'loop-holds': 'let e = @count .ensures .0 in (omega (arith, e), omega (arith, e), rw e (table-sound _ _ (@Start .pre .0) (@Start .pre .1) .entries), refl, refl, λ ports. rw e refl)',
+        'entry-at-requires': 'table-inside _ _ (table-sound _ _ (@Start .pre .0) (@Start .pre .1)) _ _ (@loop .inv .0) (@loop-test .taken)',
+        'write-body-requires': '(entries-within _ _ _ _ (@loop-test .taken) (@loop .inv .2) _ (@entry-at .ensures) _ (@loop .inv .3), @loop .inv .4 ∙ @Start .pre .2, %s)' % INSIDE,
         'cast-at': 'search needs', 'mul-at-2': 'omega (arith, %s)' % INSIDE, 'add-at-2': 'omega (arith, @Start .good .1 .0 .0, %s)' % INSIDE,
         'loop-again': '(omega arith, body-next _ _ _ (@entry-at .ensures) _ (@loop .inv .1), entries-rest _ _ _ _ (@loop-test .taken) (@loop .inv .2), '
             '@write-body .kept .1 .1 .1 .1 .0 ∙ @loop .inv .3, @write-body .kept .1 .1 .1 .1 .1 .0 ∙ @loop .inv .4, '
@@ -43,7 +43,8 @@ A = importing({
         'same-length': '@loop .inv .3', 'same-length-2': '@loop .inv .4',
         'returns': 'λ ports. machine-became (sym (@loop .inv .5 ports ∙ bodies-none _ _ _ _ (@loop-test .left)))'},
     'load': {
-        'write-bodies-requires': 'ready _ _ _ _ _ (@check .ensures) _ (@number .ensures) (@if1 .left) _ _ (@reset .kept .0) (@reset .kept .1 .0)',
+        'write-bodies-requires': 'ready _ _ _ _ _ (@check .ensures) _ (@number .ensures) (@if1 .left) (@if2 .left) _ _ (@reset .kept .0) (@reset .kept .1 .0)',
         'returns': 'refused _ _ _ _ _ (@check .ensures) _ (@number .ensures) _ (@if1 .taken)',
-        'returns-2': 'accepted _ _ _ _ _ (@check .ensures) _ (@number .ensures) _ (@if1 .left) _ _ _ _ (@reset .ensures) _ _ _ (@write-bodies .ensures _)'},
+        'returns-2': 'bare _ _ _ _ _ (@check .ensures) _ (@number .ensures) _ (@if1 .left) (@if2 .taken) _ _ _ _ (@reset .ensures)',
+        'returns-3': 'accepted _ _ _ _ _ (@check .ensures) _ (@number .ensures) _ (@if1 .left) (@if2 .left) _ _ _ _ (@reset .ensures) _ _ _ (@write-bodies .ensures _)'},
 })

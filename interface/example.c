@@ -5,7 +5,7 @@
 
 #include "twin1750.h"
 
-#if TWIN1750_VERSION != 2
+#if TWIN1750_VERSION != 3
 #error "this example is written for version 2 of the interface"
 #endif
 

@@ -7,10 +7,10 @@
  *   pages    512 page registers: 0 to 255 the instruction set, 256 to 511 the operand set, each at 16 x group + page
  *   ports    1,024 ports
  *
- * Each pointer is followed by the number of elements that it points to. A pointer is not null, also where that number is 0, and is
- * aligned for its type; no two of the lists overlap, and the image of a load overlaps none of them. Any number may be given, and one
- * that is wrong is refused. A call keeps nothing after it has returned, takes nothing from the heap, and may run beside a call on
- * other lists.
+ * Each pointer is followed by the number of elements that it points to. A pointer is not null, also where that number is 0, as with
+ * an image of no bytes, and is aligned for its type; no two of the lists overlap, and the image of a load overlaps none of them.
+ * Any number may be given, and one that is wrong is refused. A call keeps nothing after it has returned, takes nothing from the
+ * heap, and may run beside a call on other lists.
  *
  * Words of the packed state (bit 0 is the most significant bit of a word, bit 15 the least significant):
  *
@@ -42,7 +42,7 @@ extern "C" {
 #endif
 
 /* The version of this interface. It rises when a word of the layout or a call changes its meaning. */
-#define TWIN1750_VERSION 2
+#define TWIN1750_VERSION 3
 
 /* The numbers of packed words, page registers and ports that a call takes. */
 enum {
@@ -74,7 +74,7 @@ enum {
 };
 
 /* The answers: done, or the question that was answered by "no". Both calls ask 100 first, then 1 to 3; then a run asks 4 and 5,
- * a load 6 to 12, of which 9 to 11 are asked entry by entry. */
+ * a load 6 to 12, of which 9 to 11 are asked entry by entry. An image of no bytes is asked none after 6. */
 enum {
     TWIN1750_DONE = 0,
     TWIN1750_REFUSED_MEMORY = 1,        /* is memory a multiple of 4,096 words, from 4,096 to 1,048,576? */
@@ -82,7 +82,7 @@ enum {
     TWIN1750_REFUSED_PORTS = 3,         /* are there exactly 1,024 ports? */
     TWIN1750_REFUSED_BUDGET = 4,        /* is the budget at most 1,000,000? */
     TWIN1750_REFUSED_COUNTER = 5,       /* is counter plus budget at most 4,294,967,295? */
-    TWIN1750_REFUSED_NO_COUNT = 6,      /* does the image have two bytes? */
+    TWIN1750_REFUSED_NO_COUNT = 6,      /* does the image have no bytes, or at least two? */
     TWIN1750_REFUSED_MANY_ENTRIES = 7,  /* does it have at most 64 entries? */
     TWIN1750_REFUSED_SHORT_TABLE = 8,   /* is its table whole? */
     TWIN1750_REFUSED_KIND = 9,          /* is the kind 1 to 4? */
@@ -92,7 +92,8 @@ enum {
     TWIN1750_REFUSED_STATE = 100        /* is the packed state exactly 256 words? */
 };
 
-/* Loads an image: resets the machine, then writes the bodies. Of what is lent only the lengths matter to an accepted image. */
+/* Loads an image: resets the machine, then writes the bodies. One of no bytes, with length 0, leaves the machine as reset. Of what
+ * is lent only the lengths matter to an accepted image. */
 uint32_t twin1750_load(const uint8_t *image, size_t image_len,
                        uint16_t *state, size_t state_len,
                        uint16_t *memory, size_t memory_len,

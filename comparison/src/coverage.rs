@@ -7,9 +7,11 @@ use crate::watch::Next;
 use simulator::State;
 use std::collections::BTreeMap;
 
-/// Answers that runs and loads can give.
+/// Answers that runs and loads can give, and loads of no bytes and of one byte.
 const RUN_ANSWERS: [u32; 7] = [0, 1, 2, 3, 4, 5, 100];
 const LOAD_ANSWERS: [u32; 12] = [0, 1, 2, 3, 6, 7, 8, 9, 10, 11, 12, 100];
+const NO_BYTES_ANSWERS: [u32; 5] = [0, 1, 2, 3, 100];
+const ONE_BYTE_ANSWERS: [u32; 5] = [1, 2, 3, 6, 100];
 /// The machine error interrupt in PI, set by every fault.
 const MACHINE_ERROR: u16 = 0x4000;
 /// The bits of FT that faults set.
@@ -25,9 +27,14 @@ pub struct Coverage {
     watched: u64,
     refused: u64,
     illegal: u64,
-    runs: BTreeMap<u32, u64>,
-    loads: BTreeMap<u32, u64>,
+    runs: Answers,
+    loads: Answers,
+    no_bytes: Answers,
+    one_byte: Answers,
 }
+
+/// How often each answer was given.
+type Answers = BTreeMap<u32, u64>;
 
 impl Default for Coverage {
     fn default() -> Coverage {
@@ -40,8 +47,10 @@ impl Default for Coverage {
             watched: 0,
             refused: 0,
             illegal: 0,
-            runs: BTreeMap::new(),
-            loads: BTreeMap::new(),
+            runs: Answers::new(),
+            loads: Answers::new(),
+            no_bytes: Answers::new(),
+            one_byte: Answers::new(),
         }
     }
 }
@@ -66,8 +75,13 @@ impl Watcher for Coverage {
         *self.runs.entry(answer).or_default() += 1;
     }
 
-    fn loaded(&mut self, answer: u32) {
+    fn loaded(&mut self, bytes: usize, answer: u32) {
         *self.loads.entry(answer).or_default() += 1;
+        match bytes {
+            0 => *self.no_bytes.entry(answer).or_default() += 1,
+            1 => *self.one_byte.entry(answer).or_default() += 1,
+            _ => {}
+        }
     }
 }
 
@@ -111,13 +125,22 @@ impl Coverage {
         for (bit, count) in FAULTS.iter().zip(self.faults) {
             ask(count > 0, format!("fault {bit:04X}"));
         }
-        for answer in RUN_ANSWERS {
-            ask(self.runs.contains_key(&answer), format!("answer {answer} of a run"));
-        }
-        for answer in LOAD_ANSWERS {
-            ask(self.loads.contains_key(&answer), format!("answer {answer} of a load"));
+        for (what, given, answers) in self.answers() {
+            for answer in answers {
+                ask(given.contains_key(answer), format!("answer {answer} of {what}"));
+            }
         }
         missing
+    }
+
+    /// The answers given, by the kind of call, and those that it can give.
+    fn answers(&self) -> [(&'static str, &Answers, &'static [u32]); 4] {
+        [
+            ("runs", &self.runs, &RUN_ANSWERS),
+            ("loads", &self.loads, &LOAD_ANSWERS),
+            ("loads of no bytes", &self.no_bytes, &NO_BYTES_ANSWERS),
+            ("loads of one byte", &self.one_byte, &ONE_BYTE_ANSWERS),
+        ]
     }
 
     /// The counts in print.
@@ -143,10 +166,10 @@ impl Coverage {
         for (what, counts) in rows {
             text += &reached(what, &counts);
         }
-        for (what, answers) in [("runs", &self.runs), ("loads", &self.loads)] {
-            let answers: Vec<String> =
-                answers.iter().map(|(answer, count)| format!("{answer}: {count}")).collect();
-            text += &format!("answers of {what}: {}\n", answers.join(", "));
+        for (what, given, _) in self.answers() {
+            let counts: Vec<String> =
+                given.iter().map(|(answer, count)| format!("{answer}: {count}")).collect();
+            text += &format!("answers of {what}: {}\n", counts.join(", "));
         }
         text
     }

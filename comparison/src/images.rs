@@ -1,4 +1,4 @@
-//! Random images: mostly valid, some damaged in each way.
+//! Random images: mostly valid, some damaged in each way, some of no bytes or of a single one.
 
 use crate::numbers::Numbers;
 use crate::words::edge;
@@ -26,8 +26,17 @@ fn target(kind: u16, memory: u32) -> u32 {
     }
 }
 
-/// An image for a memory of some words; where there are none it is refused before it is looked at.
+/// An image for a memory of some words: one in sixteen has no bytes, one in sixteen a single byte.
 pub fn image(numbers: &mut Numbers, memory: usize) -> Vec<u8> {
+    match numbers.below(16) {
+        0 => Vec::new(),
+        1 => vec![numbers.pick(&[0, 1, 64, 65, 0xFF])],
+        _ => tabled(numbers, memory),
+    }
+}
+
+/// An image with a table; where there are no words of memory it is refused before it is looked at.
+fn tabled(numbers: &mut Numbers, memory: usize) -> Vec<u8> {
     let memory = memory.max(1) as u32;
     let mut entries = entries(numbers, memory);
     let damage = if numbers.once_in(2) { 0 } else { 1 + numbers.below(8) };

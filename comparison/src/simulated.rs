@@ -19,8 +19,8 @@ pub trait Watcher {
     fn stepped(&mut self, before: &State, next: Next, after: &mut State, memory: &mut [u16]);
     /// Sees the answer of a run.
     fn ran(&mut self, _answer: u32) {}
-    /// Sees the answer of a load.
-    fn loaded(&mut self, _answer: u32) {}
+    /// Sees a load: how many bytes its image has, and its answer.
+    fn loaded(&mut self, _bytes: usize, _answer: u32) {}
 }
 
 /// The longest run that is made one step at a time.
@@ -49,7 +49,7 @@ impl<W: Watcher> Subject for Stepped<W> {
 
     fn load(&mut self, image: &[u8], lent: &mut Lent) -> u32 {
         let answer = Simulated.load(image, lent);
-        self.watcher.loaded(answer);
+        self.watcher.loaded(image.len(), answer);
         answer
     }
 }

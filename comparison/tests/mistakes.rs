@@ -159,13 +159,24 @@ impl Subject for WrongCall {
     }
 
     fn load(&mut self, image: &[u8], lent: &mut Lent) -> u32 {
-        match (self.0, Simulated.load(image, lent)) {
-            (3, 11) => 12,
-            (4, 0) => {
+        let before = lent.clone();
+        match (self.0, image.len(), Simulated.load(image, lent)) {
+            (3, _, 11) => 12,
+            (4, _, 0) => {
                 lent.ports[1023] = 1;
                 0
             }
-            (_, answer) => answer,
+            (5, 0, 0) => {
+                *lent = before;
+                6
+            }
+            (6, 1, 6) => Simulated.load(&[], lent),
+            (7, 0, 0) => {
+                *lent = before;
+                0
+            }
+            (8, 0, 3) => 0,
+            (_, _, answer) => answer,
         }
     }
 }
@@ -178,6 +189,10 @@ fn mistakes_in_a_call() {
         "a refusal changes a register",
         "another number for shared words",
         "a port is not reset",
+        "an image of no bytes is refused by 6",
+        "one byte is accepted",
+        "an image of no bytes changes nothing",
+        "an image of no bytes is not asked how many ports there are",
     ];
     for (number, what) in (0..).zip(mistakes) {
         caught(what, &mut WrongCall(number));

@@ -1,4 +1,4 @@
-//! The image format: a table of entries, then their bodies.
+//! The image format: a table of entries, then their bodies; or no bytes, for the reset machine.
 
 use crate::questions;
 use crate::state::{reset, State, PAGE_REGISTERS};
@@ -32,7 +32,7 @@ impl Entry {
     }
 }
 
-/// Resets everything and writes the bodies of an image.
+/// Resets everything and writes the bodies of an image; one of no bytes has none.
 ///
 /// # Errors
 /// 1 to 3 and 6 to 12, with everything unchanged.
@@ -73,8 +73,12 @@ fn number(bytes: &[u8]) -> u64 {
     bytes.iter().fold(0, |value, byte| 256 * value + u64::from(*byte))
 }
 
-/// The checked entries and the bytes of their bodies.
+/// The checked entries and the bytes of their bodies. No bytes have neither, and are asked nothing
+/// more: question 6 is "no bytes, or at least two?", and 7 to 12 are for those that have two.
 fn table(image: &[u8], memory: usize) -> Result<(Vec<Entry>, &[u8]), u32> {
+    if image.is_empty() {
+        return Ok((Vec::new(), image));
+    }
     let (count, rest) = image.split_at_checked(2).ok_or(6u32)?;
     let count = number(count) as usize;
     if count > ENTRY_LIMIT {

@@ -11,7 +11,7 @@ pub const PROGRAM_BYTES: usize = 32_768;
 /// Steps that the program makes.
 pub const PROGRAM_STEPS: u32 = 1_000;
 
-/// What the program prints for an input.
+/// What the program prints for an input; given nothing, it runs the reset machine.
 pub fn program(input: &[u8]) -> String {
     match loaded_and_run(input) {
         Ok(state) => print(&state, PROGRAM_STEPS),

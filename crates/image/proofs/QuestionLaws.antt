@@ -11,7 +11,7 @@ use Rattle.machine.specs.Runs.{asked}
 use Rattle.image.specs.declared.Entry.{Entry}
 use Rattle.image.specs.declared.Loading.{Loading}
 use Rattle.image.specs.declared.Loading.the-variants.{Accepted, NoCount, ManyEntries, ShortTable, BadKind, BadRange, SharedWord, BadBodies}
-use Rattle.image.specs.Image.{countOf, entryAt, wordsBefore, tableEnd, bodyAt, numberOf, unlessRefused, targetSize, endOf, share, sharesEarlier, entryAnswer, entriesAnswer, imageAnswer}
+use Rattle.image.specs.Image.{countOf, entryAt, wordsBefore, tableEnd, bodyAt, numberOf, isEmpty, unlessRefused, targetSize, endOf, share, sharesEarlier, entryAnswer, entriesAnswer, tableAnswer, imageAnswer}
 
 -- ---- the words of the bodies
 
@@ -92,33 +92,42 @@ module _ (memory : ℕ) (b : List ℕ) where
     unfolding unlessRefused
     entries-out z = sym (entries-step n k h ∙ rw (← e, ← f, ne-eqb _ _ z) refl)
 
--- ---- the questions to an image
+-- ---- the questions to an image, and to its table and bodies
 
 module _ (memory : ℕ) (b : List ℕ) where
-  pub no-count : length b < 2 → NoCount ≡ imageAnswer memory b
-  unfolding imageAnswer asked
-  no-count h = rw (lt-leb _ _ h) refl
+  pub no-bytes : length b ≡ 0 → Accepted ≡ imageAnswer memory b
+  unfolding imageAnswer isEmpty asked
+  no-bytes h = rw (eq-eqb _ _ h) refl
 
-  module _ (two : 2 ≤ length b) (n : ℕ) (c : n ≡ countOf b) where
-    pub many-entries : 64 < n → ManyEntries ≡ imageAnswer memory b
-    unfolding imageAnswer asked
-    many-entries h = rw (le-leb _ _ two, ← c, lt-leb _ _ h) refl
+  module _ (some : length b ≡ 0 → ⊥) where
+    pub no-count : length b < 2 → NoCount ≡ imageAnswer memory b
+    unfolding imageAnswer isEmpty asked
+    no-count h = rw (ne-eqb _ _ some, lt-leb _ _ h) refl
+
+    pub by-table : 2 ≤ length b → tableAnswer memory b ≡ imageAnswer memory b
+    unfolding imageAnswer isEmpty asked
+    by-table h = rw (ne-eqb _ _ some, le-leb _ _ h) refl
+
+  module _ (n : ℕ) (c : n ≡ countOf b) where
+    pub many-entries : 64 < n → ManyEntries ≡ tableAnswer memory b
+    unfolding tableAnswer asked
+    many-entries h = rw (← c, lt-leb _ _ h) refl
 
     module _ (few : n ≤ 64) where
-      pub short-table : length b < 2 + 10 * n → ShortTable ≡ imageAnswer memory b
-      unfolding imageAnswer asked tableEnd
-      short-table h = rw (le-leb _ _ two, ← c, le-leb _ _ few, lt-leb _ _ h) refl
+      pub short-table : length b < 2 + 10 * n → ShortTable ≡ tableAnswer memory b
+      unfolding tableAnswer asked tableEnd
+      short-table h = rw (← c, le-leb _ _ few, lt-leb _ _ h) refl
 
       module _ (table : 2 + 10 * n ≤ length b) (a : Loading) (e : a ≡ entriesAnswer memory b n 0) (q : ℕ) (f : q ≡ numberOf a) where
-        pub bad-entry : (q ≡ 0 → ⊥) → a ≡ imageAnswer memory b
-        unfolding imageAnswer asked tableEnd unlessRefused
-        bad-entry h = rw (le-leb _ _ two, ← c, le-leb _ _ few, le-leb _ _ table, ← e, ← f, ne-eqb _ _ h) refl
+        pub bad-entry : (q ≡ 0 → ⊥) → a ≡ tableAnswer memory b
+        unfolding tableAnswer asked tableEnd unlessRefused
+        bad-entry h = rw (← c, le-leb _ _ few, le-leb _ _ table, ← e, ← f, ne-eqb _ _ h) refl
 
         module _ (right : q ≡ 0) (w : ℕ) (g : w ≡ wordsBefore b n) where
-          pub bad-bodies : (length b ≡ 2 + 10 * n + 2 * w → ⊥) → BadBodies ≡ imageAnswer memory b
-          unfolding imageAnswer asked tableEnd unlessRefused bodyAt
-          bad-bodies h = rw (le-leb _ _ two, ← c, le-leb _ _ few, le-leb _ _ table, ← e, ← f, eq-eqb _ _ right, ← g, ne-eqb _ _ h) refl
+          pub bad-bodies : (length b ≡ 2 + 10 * n + 2 * w → ⊥) → BadBodies ≡ tableAnswer memory b
+          unfolding tableAnswer asked tableEnd unlessRefused bodyAt
+          bad-bodies h = rw (← c, le-leb _ _ few, le-leb _ _ table, ← e, ← f, eq-eqb _ _ right, ← g, ne-eqb _ _ h) refl
 
-          pub image-right : length b ≡ 2 + 10 * n + 2 * w → Accepted ≡ imageAnswer memory b
-          unfolding imageAnswer asked tableEnd unlessRefused bodyAt
-          image-right h = rw (le-leb _ _ two, ← c, le-leb _ _ few, le-leb _ _ table, ← e, ← f, eq-eqb _ _ right, ← g, eq-eqb _ _ h) refl
+          pub table-right : length b ≡ 2 + 10 * n + 2 * w → Accepted ≡ tableAnswer memory b
+          unfolding tableAnswer asked tableEnd unlessRefused bodyAt
+          table-right h = rw (← c, le-leb _ _ few, le-leb _ _ table, ← e, ← f, eq-eqb _ _ right, ← g, eq-eqb _ _ h) refl

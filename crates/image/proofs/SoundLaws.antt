@@ -6,11 +6,11 @@ use mathlib.Core.List.{List}
 use native.Mathlib.Omega.{arith}
 use lib.Dec.{eqb, leb}
 use lib.ListN.{length}
-use borrow.Author.Tests.{eqb-true, eqb-false, leb-true}
+use borrow.Author.Tests.{eqb-true, eqb-false, ne-eqb, leb-true}
 use Rattle.machine.specs.Runs.{asked}
 use Rattle.image.specs.declared.Entry.{Entry}
 use Rattle.image.specs.declared.Loading.{Loading}
-use Rattle.image.specs.Image.{countOf, entryAt, tableEnd, bodyAt, numberOf, unlessRefused, targetSize, endOf, entryAnswer, entriesAnswer, imageAnswer, admission}
+use Rattle.image.specs.Image.{countOf, entryAt, tableEnd, bodyAt, numberOf, isEmpty, unlessRefused, targetSize, endOf, entryAnswer, entriesAnswer, tableAnswer, imageAnswer, admission}
 use Rattle.image.proofs.QuestionLaws.{entries-step}
 
 asked-yes : (t : Bool) (out rest : Loading) → (numberOf out ≡ 0 → ⊥) → numberOf (asked t out rest) ≡ 0 → (t ≡ true) × (numberOf rest ≡ 0)
@@ -44,28 +44,32 @@ module _ (memory : ℕ) (b : List ℕ) where
     pub entries-rest : numberOf (entriesAnswer memory b (n - 1) (k + 1)) ≡ 0
     entries-rest = then-yes _ _ (rw (entries-step memory b n k l) at h) .1
 
-  -- what an accepted image has
+  -- what an accepted image of some bytes has
   pub record Sound : Type 0 where
     pub counted : 2 ≤ length b
     pub table : tableEnd b ≤ length b
     pub entries : numberOf (entriesAnswer memory b (countOf b) 0) ≡ 0
     pub bodies : length b ≡ bodyAt b (countOf b)
 
-  pub image-sound : numberOf (imageAnswer memory b) ≡ 0 → Sound
-  unfolding imageAnswer
-  image-sound h =
-      let p = asked-yes _ _ _ (λ z. omega arith) h in
-      let q = asked-yes _ _ _ (λ z. omega arith) (p .1) in
+  pub table-sound : 2 ≤ length b → numberOf (tableAnswer memory b) ≡ 0 → Sound
+  unfolding tableAnswer
+  table-sound two h =
+      let q = asked-yes _ _ _ (λ z. omega arith) h in
       let r = asked-yes _ _ _ (λ z. omega arith) (q .1) in
       let t = then-yes _ _ (r .1) in
       let u = asked-yes _ _ _ (λ z. omega arith) (t .1) in
-      record { counted = leb-true _ _ (p .0); table = leb-true _ _ (r .0); entries = t .0; bodies = eqb-true _ _ (u .0) }
+      record { counted = two; table = leb-true _ _ (r .0); entries = t .0; bodies = eqb-true _ _ (u .0) }
 
--- with page registers and ports, for lists of the same lengths: q is the number of the answer a
+  by-table : (length b ≡ 0 → ⊥) → numberOf (imageAnswer memory b) ≡ 0 → (2 ≤ length b) × (numberOf (tableAnswer memory b) ≡ 0)
+  unfolding imageAnswer isEmpty
+  by-table some h = let p = asked-yes _ _ _ (λ z. omega arith) (rw (ne-eqb _ _ some) at h) in (leb-true _ _ (p .0), p .1)
+
+-- with page registers and ports, for an image of some bytes and lists of the same lengths: q is the number of the answer a
 pub ready : (b : List ℕ) (memory pages ports : ℕ) (a : Loading) → a ≡ admission b memory pages ports → (q : ℕ) → q ≡ numberOf a → q ≡ 0
-    → (m g : ℕ) → m ≡ memory → g ≡ pages → (numberOf (imageAnswer m b) ≡ 0) × (g ≡ 512)
+    → (length b ≡ 0 → ⊥) → (m g : ℕ) → m ≡ memory → g ≡ pages → (2 ≤ length b) × (numberOf (tableAnswer m b) ≡ 0) × (g ≡ 512)
 unfolding admission
-ready b memory pages ports a e q f z m g k l =
+ready b memory pages ports a e q f z some m g k l =
     let p = asked-yes _ _ _ (λ z. omega arith) (rw (e, z) at (sym f)) in
     let r = asked-yes _ _ _ (λ z. omega arith) (p .1) in
-    rw (k, l) (asked-yes _ _ _ (λ z. omega arith) (r .1) .1, eqb-true _ _ (r .0))
+    let t = by-table memory b some (asked-yes _ _ _ (λ z. omega arith) (r .1) .1) in
+    rw (k, l) (t .0, t .1, eqb-true _ _ (r .0))

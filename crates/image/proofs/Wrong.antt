@@ -13,9 +13,13 @@ use Rattle.image.proofs.Opened.{images}
 abbrev image : List ℕ
 image = tableOf (λ k. k) 0 22
 
--- the number of the answer to an image of one entry from word 0 on, of a kind and a number of words, with a body of these bytes
+-- the number of the answer to an image
+abbrev asked-of : List ℕ → ℕ
+asked-of b = numberOf (admission b 4096 512 1024)
+
+-- the same, of one entry from word 0 on, of a kind and a number of words, with a body of these bytes
 abbrev answered : ℕ → ℕ → List ℕ → ℕ
-answered kind n body = numberOf (admission ((0 ∷ 1 ∷ 0 ∷ kind ∷ 0 ∷ 0 ∷ 0 ∷ 0 ∷ 0 ∷ 0 ∷ 0 ∷ n ∷ []) ++ body) 4096 512 1024)
+answered kind n body = asked-of ((0 ∷ 1 ∷ 0 ∷ kind ∷ 0 ∷ 0 ∷ 0 ∷ 0 ∷ 0 ∷ 0 ∷ 0 ∷ n ∷ []) ++ body)
 
 pub rows : List Row
 unfolding machinery images
@@ -32,6 +36,8 @@ rows =
     (numberOf Accepted ∷ numberOf BadMemory ∷ numberOf BadPages ∷ numberOf BadPorts ∷ numberOf NoCount ∷ numberOf ManyEntries ∷ numberOf ShortTable ∷
     numberOf BadKind ∷ numberOf BadRange ∷ numberOf SharedWord ∷ numberOf BadBodies ∷ [])
     (0 ∷ 1 ∷ 2 ∷ 3 ∷ 6 ∷ 7 ∷ 8 ∷ 9 ∷ 10 ∷ 11 ∷ 12 ∷ []) (0 ∷ 1 ∷ 2 ∷ 3 ∷ 6 ∷ 6 ∷ 8 ∷ 9 ∷ 10 ∷ 11 ∷ 12 ∷ []) (0 ∷ 1 ∷ 2 ∷ 3 ∷ 6 ∷ 7 ∷ 8 ∷ 9 ∷ 11 ∷ 10 ∷ 12 ∷ [])
+    -- questions::check: an image of no bytes is refused by 6; one byte alone is accepted
+    ∷ some (asked-of [] ∷ asked-of (0 ∷ []) ∷ asked-of (0 ∷ 0 ∷ []) ∷ asked-of (0 ∷ 1 ∷ []) ∷ []) (0 ∷ 6 ∷ 0 ∷ 8 ∷ []) (6 ∷ 6 ∷ 0 ∷ 8 ∷ []) (0 ∷ 0 ∷ 0 ∷ 8 ∷ [])
     -- questions::check: an entry of kind 5 is accepted; an entry of no words is accepted
     ∷ some (answered 4 1 (0 ∷ 7 ∷ []) ∷ answered 5 1 (0 ∷ 7 ∷ []) ∷ answered 4 0 [] ∷ []) (0 ∷ 9 ∷ 10 ∷ []) (0 ∷ 0 ∷ 10 ∷ []) (0 ∷ 9 ∷ 0 ∷ [])
     -- questions::check: bodies of one byte a word are accepted, and bodies of two bytes a word are not; bytes after the bodies are accepted

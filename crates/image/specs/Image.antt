@@ -26,6 +26,10 @@ wordAt b i = 256 * getD b i 0 + getD b (i + 1) 0
 unfoldable pub longAt : List ℕ → ℕ → ℕ
 longAt b i = 65536 * wordAt b i + wordAt b (i + 2)
 
+-- whether there are no bytes
+unfoldable pub isEmpty : List ℕ → Bool
+isEmpty b = eqb (length b) 0
+
 -- the number of entries
 unfoldable pub countOf : List ℕ → ℕ
 countOf b = wordAt b 0
@@ -104,15 +108,18 @@ module _ (memory : ℕ) (b : List ℕ) where
   entriesAnswer zero k = Accepted
   entriesAnswer (suc n) k = unlessRefused (entryAnswer k) (entriesAnswer n (suc k))
 
-  -- those to an image
-  unfoldable pub imageAnswer : Loading
-  imageAnswer =
-      asked (leb 2 (length b)) NoCount
-      (asked (leb (countOf b) 64) ManyEntries
+  -- those to a table and its bodies
+  unfoldable pub tableAnswer : Loading
+  tableAnswer =
+      asked (leb (countOf b) 64) ManyEntries
       (asked (leb (tableEnd b) (length b)) ShortTable
       (unlessRefused (entriesAnswer (countOf b) 0)
       (asked (eqb (length b) (bodyAt b (countOf b))) BadBodies
-      Accepted))))
+      Accepted)))
+
+  -- those to an image: are there no bytes, or at least two? Where there are none, no more is asked (change request 1)
+  unfoldable pub imageAnswer : Loading
+  imageAnswer = asked (isEmpty b || leb 2 (length b)) NoCount (cond (isEmpty b) Accepted tableAnswer)
 
 -- all of them, from the numbers of words, page registers and ports
 unfoldable pub admission : List ℕ → ℕ → ℕ → ℕ → Loading
@@ -154,9 +161,9 @@ module _ (b : List ℕ) where
 
   -- ---- loading
 
-  -- reset, by the numbers of words, page registers and ports, then the bodies
+  -- reset, by the numbers of words, page registers and ports, then the bodies, where there are bytes
   unfoldable pub loaded : ℕ → ℕ → ℕ → Machine
-  loaded memory pages ports = withBodies (countOf b) 0 (resetMachine memory pages ports)
+  loaded memory pages ports = let x = resetMachine memory pages ports in cond (isEmpty b) x (withBodies (countOf b) 0 x)
 
   -- what loading leaves: a refusal changes nothing
   unfoldable pub afterLoading : Machine → Machine

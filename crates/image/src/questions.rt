@@ -2,7 +2,7 @@
 ghost use mathlib.Core.Path.{_≡_};
 ghost use Prim.Native.Nat.{_+_, _*_, _≤_};
 ghost use lib.ListN.{length};
-ghost use Rattle.image.specs.Image.{targetSize, share, sharesEarlier, numberOf, entryAnswer, entriesAnswer, imageAnswer, admission};
+ghost use Rattle.image.specs.Image.{targetSize, share, sharesEarlier, numberOf, entryAnswer, entriesAnswer, tableAnswer, imageAnswer, admission};
 use crate::Entry;
 use crate::Loading;
 use crate::table::count;
@@ -112,13 +112,11 @@ fn check_entries(image: &[u8], memory: usize, n: usize) -> Loading
     Loading::Accepted
 }
 
-// The questions to an image.
-fn check_image(image: &[u8], memory: usize) -> Loading
-    ensures { λ r. ⌜ r ≡ imageAnswer memory (now (image .entry)) ⌝ }
+// The questions to a table and its bodies.
+fn check_table(image: &[u8], memory: usize) -> Loading
+    requires { ⌜ 2 ≤ length (now image) ⌝ }
+    ensures { λ r. ⌜ r ≡ tableAnswer memory (now (image .entry)) ⌝ }
 {
-    if image.len() < 2 {
-        return Loading::NoCount;
-    }
     let n = count(image);
     if 64 < n {
         return Loading::ManyEntries;
@@ -135,6 +133,19 @@ fn check_image(image: &[u8], memory: usize) -> Loading
         return Loading::BadBodies;
     }
     Loading::Accepted
+}
+
+// The questions to an image: one of no bytes is asked no more.
+fn check_image(image: &[u8], memory: usize) -> Loading
+    ensures { λ r. ⌜ r ≡ imageAnswer memory (now (image .entry)) ⌝ }
+{
+    if image.len() == 0 {
+        return Loading::Accepted;
+    }
+    if image.len() < 2 {
+        return Loading::NoCount;
+    }
+    check_table(image, memory)
 }
 
 // All questions, those to the sizes first.

@@ -85,7 +85,8 @@ pub loadings : List Row
 loadings =
     -- the Scope's example
     loads 16384 (0x00 ∷ 0x01 ∷ 0x00 ∷ 0x01 ∷ 0x00 ∷ 0x00 ∷ 0x00 ∷ 0x00 ∷ 0x00 ∷ 0x00 ∷ 0x00 ∷ 0x02 ∷ 0x82 ∷ 0x3F ∷ 0x79 ∷ 0x00 ∷ []) (0x823F ∷ 0x7900 ∷ []) [] clear
-    -- no entries: reset
+    -- no bytes, and no entries: reset
+    ∷ loads 4096 [] [] [] clear
     ∷ loads 4096 (0 ∷ 0 ∷ []) [] [] clear
     -- 64 entries
     ∷ loads 4096 (image 64 (singles 64 0) (replicate 64 0xABCD)) (replicate 64 0xABCD) [] clear
@@ -106,12 +107,14 @@ refusals =
     refuses 0 512 1024 one 1
     ∷ refuses 4097 512 1024 one 1
     ∷ refuses 2048 511 1023 [] 1
+    ∷ refuses 4095 512 1024 [] 1
     ∷ refuses 4096 511 1023 [] 2
     ∷ refuses 4096 513 1024 one 2
     ∷ refuses 4096 512 1023 [] 3
     ∷ refuses 4096 512 1025 one 3
-    ∷ refuses 4096 512 1024 [] 6
     ∷ refuses 4096 512 1024 (0 ∷ []) 6
+    ∷ refuses 4096 512 1024 (255 ∷ []) 6
+    ∷ refuses 4096 512 1024 (0 ∷ 1 ∷ []) 8
     ∷ refuses 4096 512 1024 (0 ∷ 65 ∷ []) 7
     ∷ refuses 4096 512 1024 (1 ∷ 0 ∷ []) 7
     ∷ refuses 4096 512 1024 (0 ∷ 64 ∷ []) 8

@@ -6,7 +6,7 @@ ghost use lib.ListN.{length};
 ghost use lib.Seq.{sets};
 ghost use Rattle.machine.specs.State.{withRegs};
 ghost use Rattle.machine.specs.Machine.{Became, machine};
-ghost use Rattle.image.specs.Image.{countOf, wordsFrom, numberOf, targetSize, endOf, controlOf, withControl, withWords, withBodies, imageAnswer, Outcome};
+ghost use Rattle.image.specs.Image.{countOf, wordsFrom, numberOf, targetSize, endOf, controlOf, withControl, withWords, withBodies, tableAnswer, Outcome};
 use image::Entry;
 use image::Loading;
 use image::questions::check;
@@ -101,9 +101,9 @@ fn write_body(
     t
 }
 
-// The bodies of an image that was accepted.
+// The bodies of an image of some bytes that was accepted.
 fn write_bodies(s: State, image: &[u8], memory: &mut [u16], pages: &mut [u16]) -> State
-    requires { ⌜ (numberOf (imageAnswer (length (now memory)) (now image)) ≡ 0) × (length (now pages) ≡ 512) ⌝ }
+    requires { ⌜ (2 ≤ length (now image)) × (numberOf (tableAnswer (length (now memory)) (now image)) ≡ 0) × (length (now pages) ≡ 512) ⌝ }
     ensures { λ r. ⌜ ((ports : List ℕ) → Became (withBodies (now (image .entry)) (countOf (now (image .entry))) 0
         (machine s (now (memory .entry)) (now (pages .entry)) ports)) r (now (memory .exit)) (now (pages .exit)) ports) ⌝ }
 {
@@ -122,7 +122,7 @@ fn write_bodies(s: State, image: &[u8], memory: &mut [u16], pages: &mut [u16]) -
     t
 }
 
-// Loading: a refusal returns the given state and changes nothing.
+// Loading: a refusal returns the given state and changes nothing; an image of no bytes leaves what reset leaves.
 pub fn load(
     state: State,
     image: &[u8],
@@ -141,6 +141,12 @@ pub fn load(
         };
     }
     let fresh = reset(memory, pages, ports);
+    if image.len() == 0 {
+        return Loaded {
+            answer: answer,
+            state: fresh,
+        };
+    }
     let t = write_bodies(fresh, image, memory, pages);
     Loaded {
         answer: answer,

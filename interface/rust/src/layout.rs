@@ -4,7 +4,7 @@
 //! same holds for the bits of [`MARKS`] that are no marks. Words 24 to 30 are kept for parts of a later version.
 
 /// The version of the C interface. It rises when a word of the layout or a call changes its meaning.
-pub const VERSION: u32 = 2;
+pub const VERSION: u32 = 3;
 /// The number of words of a packed state.
 pub const STATE_WORDS: usize = 256;
 

@@ -27,7 +27,7 @@ pub use library::{load_words, run_words};
 pub use refusal::Refusal;
 pub use state::State;
 
-/// Loads an image: resets the machine, then writes the bodies.
+/// Loads an image: resets the machine, then writes the bodies. An image of no bytes leaves the machine as reset.
 pub fn load(
     image: &[u8],
     state: &mut State,

@@ -30,6 +30,7 @@ extern "C" {
 }
 
 /// Loads an image on a packed state of [`STATE_WORDS`](crate::STATE_WORDS) words (see [`State::pack`](crate::State::pack)).
+/// An image of no bytes leaves the machine as reset.
 #[allow(unsafe_code)]
 pub fn load_words(
     image: &[u8],

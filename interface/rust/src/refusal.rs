@@ -16,7 +16,7 @@ pub enum Refusal {
     Budget = 4,
     /// The counter plus the budget is above 4,294,967,295.
     Counter = 5,
-    /// The image has no two bytes.
+    /// The image has one byte alone: neither no bytes, nor at least two.
     NoCount = 6,
     /// The image has more than 64 entries.
     ManyEntries = 7,

@@ -40,7 +40,8 @@ pub struct State {
 }
 
 impl State {
-    /// The state after a reset: all words 0, interrupts disabled, no hold, timers 0 and running. Loading an image starts from it.
+    /// The state after a reset: all words 0, interrupts disabled, no hold, timers 0 and running. Loading an image starts from it,
+    /// and loading one of no bytes leaves it.
     pub fn reset() -> State {
         State { a_runs: true, b_runs: true, ..State::default() }
     }

@@ -71,10 +71,11 @@ fn budget_and_counter() {
 
 #[test]
 fn images() {
-    let calls: [(Call, u32); 14] = [
-        (|m| m.load(&[]), 6),
+    let calls: [(Call, u32); 15] = [
         (|m| m.load(&[0]), 6),
+        (|m| m.load(&[0xFF]), 6),
         (|m| m.load(&[0, 65]), 7),
+        (|m| m.load(&[0, 1]), 8),
         (|m| m.load(&[0, 64]), 8),
         (|m| m.load(&[0, 1, 0, 1, 0, 0, 0, 0, 0, 0, 0]), 8),
         (|m| m.load(&image(&[(0, 0, 1)], &[7])), 9),
@@ -102,6 +103,7 @@ fn order() {
     ];
     for (machine, number) in wrong {
         refused(machine.clone(), |m| m.load(&[]), number);
+        refused(machine.clone(), |m| m.load(&[0]), number);
         refused(machine, |m| m.run(1_000_001), number);
     }
     refused(counted(u32::MAX), |m| m.run(1_000_001), 4);
@@ -114,7 +116,7 @@ fn named_state() {
     let mut state = State { counter: u32::MAX, ..State::unpack(&machine.state()) };
     let before = (state, machine.clone());
     let Machine { memory, pages, ports, .. } = &mut machine;
-    assert_eq!(load(&[], &mut state, memory, pages, ports), Err(Refusal::NoCount));
+    assert_eq!(load(&[0], &mut state, memory, pages, ports), Err(Refusal::NoCount));
     assert_eq!(run(1, &mut state, memory, pages, ports), Err(Refusal::Counter));
     assert_eq!(run(1, &mut state, &mut [], pages, ports), Err(Refusal::Memory));
     assert!((state, machine) == before);

@@ -116,6 +116,30 @@ fn reset_state() {
     assert_eq!(machine.state(), State::reset().pack());
 }
 
+/// An image of no bytes leaves on a used machine what one without entries leaves: the reset machine.
+#[test]
+fn no_bytes() {
+    let (mut bare, mut counted) = (Machine::new(), Machine::new());
+    assert_eq!(bare.load(&[]), Ok(()));
+    assert_eq!(counted.load(&image(&[], &[])), Ok(()));
+    assert!(bare == counted, "no bytes leave another machine");
+    assert_eq!(bare.state(), State::reset().pack());
+    assert_eq!((bare.pages[300], bare.memory[4095], bare.ports[1023]), (0x000C, 0, 0));
+}
+
+/// The reset machine that no bytes leave makes its steps: 0000 is LB of a word that is 0.
+#[test]
+fn steps_from_no_bytes() {
+    let mut machine = Machine::new();
+    let mut state = various();
+    let Machine { memory, pages, ports, .. } = &mut machine;
+    load(&[], &mut state, memory, pages, ports).expect("loaded");
+    assert_eq!(state, State::reset());
+    run(10, &mut state, memory, pages, ports).expect("run");
+    let left = State { ic: 10, sw: 0x2000, timer_a: 10, timer_b: 1, counter: 10, ..State::reset() };
+    assert_eq!(state, left);
+}
+
 /// Marks, timers and counter after each of the commands TAH, TBH, ENBL, DSBL, OTA and OTB from R0.
 #[test]
 fn marks_of_commands() {

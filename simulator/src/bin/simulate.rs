@@ -2,9 +2,15 @@
 
 use std::io::{Read, Write};
 
-fn main() -> std::io::Result<()> {
+/// The bytes on standard input; a read that fails is its end.
+fn input() -> Vec<u8> {
     // One byte more than the program takes tells that there are too many.
-    let mut input = Vec::new();
-    std::io::stdin().take(simulator::PROGRAM_BYTES as u64 + 1).read_to_end(&mut input)?;
-    std::io::stdout().write_all(simulator::program(&input).as_bytes())
+    let mut bytes = Vec::new();
+    let mut taken = std::io::stdin().take(simulator::PROGRAM_BYTES as u64 + 1);
+    let _ = taken.read_to_end(&mut bytes);
+    bytes
+}
+
+fn main() -> std::io::Result<()> {
+    std::io::stdout().write_all(simulator::program(&input()).as_bytes())
 }

@@ -11,6 +11,13 @@ const PRINTED: &str = "steps 1000\n\
     r0 0000 0000 0000 0010 0000 0000 0000 0000\n\
     r8 0000 0000 0000 0000 0000 0000 0000 0000\n";
 
+/// What is printed for the reset machine: 0000 is LB with base R12 and displacement 0, so R2 = 0,
+/// CS zero, IC past 1,000 words.
+const RESET: &str = "steps 1000\n\
+    ic 03E8 sw 2000 mk 0000 pi 0000 ft 0000\n\
+    r0 0000 0000 0000 0000 0000 0000 0000 0000\n\
+    r8 0000 0000 0000 0000 0000 0000 0000 0000\n";
+
 /// What the program `simulate` prints.
 fn simulate(input: &[u8]) -> String {
     let mut child = Command::new(env!("CARGO_BIN_EXE_simulate"))
@@ -45,8 +52,8 @@ fn refusal_of_a_long_input() {
 
 #[test]
 fn refusals_of_the_loader_are_printed() {
-    assert_eq!(simulate(&[]), "refused 6\n");
     assert_eq!(simulate(&[0]), "refused 6\n");
+    assert_eq!(simulate(&[0xFF]), "refused 6\n");
     assert_eq!(simulate(&[0, 65]), "refused 7\n");
     assert_eq!(simulate(&[0, 1]), "refused 8\n");
     assert_eq!(program(&EXAMPLE[..15]), "refused 12\n");
@@ -63,10 +70,22 @@ fn memory_of_the_program() {
 }
 
 #[test]
-fn empty_image_runs_on_zeros() {
-    // 0000 is LB with base R12 and displacement 0: R2 = 0, CS zero, IC past 1,000 words.
-    let expected = "steps 1000\nic 03E8 sw 2000 mk 0000 pi 0000 ft 0000\n";
-    assert!(program(&[0, 0]).starts_with(expected));
+fn nothing_runs_the_reset_machine() {
+    assert_eq!(program(&[]), RESET);
+    assert_eq!(program(&[0, 0]), RESET);
+    assert_eq!(simulate(&[]), RESET);
+    assert_eq!(simulate(&[0, 0]), RESET);
+}
+
+#[test]
+fn an_input_that_cannot_be_read_is_nothing() {
+    let folder = std::fs::File::open(env!("CARGO_MANIFEST_DIR")).expect("a folder");
+    let output = Command::new(env!("CARGO_BIN_EXE_simulate"))
+        .stdin(folder)
+        .output()
+        .expect("the program ends");
+    assert!(output.status.success());
+    assert_eq!(output.stdout, RESET.as_bytes());
 }
 
 #[test]

@@ -1,5 +1,6 @@
 //! The questions before a call: every number, the order of the questions, nothing changed.
 
+use crate::bench::Bench;
 use simulator::{load, run, State};
 
 /// Runs with lists of these sizes and checks that a refusal changes nothing.
@@ -40,6 +41,34 @@ fn image(entries: &[(u16, u32, u32)], words: &[u16]) -> Vec<u8> {
 }
 
 const GOOD: [usize; 3] = [4096, 512, 1024];
+
+/// A machine of which every part differs from reset.
+fn used() -> Bench {
+    let state = State {
+        r: std::array::from_fn(|number| 0xA0A0 + number as u16),
+        ic: 0x0102,
+        sw: 0x9031,
+        mk: 0xFFFF,
+        pi: 0x4321,
+        ft: 0x8420,
+        enabled: true,
+        hold: true,
+        timer_a: 0x1234,
+        timer_b: 0x1234,
+        timer_a_running: false,
+        timer_b_running: false,
+        counter: 77,
+    };
+    let (memory, pages, ports) = (vec![0xFFFF; 4096], vec![0xF8FF; 512], vec![0x5555; 1024]);
+    Bench { state, memory, pages, ports }
+}
+
+/// Loads into a machine; a refusal leaves its state.
+fn load_on(machine: &mut Bench, image: &[u8]) -> Result<(), u32> {
+    let Bench { state, memory, pages, ports } = machine;
+    *state = load(image, memory, pages, ports)?;
+    Ok(())
+}
 
 #[test]
 fn question_1_memory() {
@@ -87,9 +116,78 @@ fn question_5_counter() {
 }
 
 #[test]
-fn question_6_two_bytes() {
-    assert_eq!(load_into(GOOD, &[]), Err(6));
-    assert_eq!(load_into(GOOD, &[0xFF]), Err(6));
+fn question_6_no_bytes_or_two() {
+    for byte in 0..=0xFF {
+        assert_eq!(load_into(GOOD, &[byte]), Err(6));
+    }
+    assert_eq!(load_into(GOOD, &[]), Ok(State::default()));
+    assert_eq!(load_into(GOOD, &[0, 0]), Ok(State::default()));
+}
+
+#[test]
+fn one_byte_leaves_everything_as_given() {
+    for byte in [0, 0xFF] {
+        let mut machine = used();
+        assert_eq!(load_on(&mut machine, &[byte]), Err(6));
+        assert!(machine == used(), "a refusal changes something");
+    }
+}
+
+#[test]
+fn no_bytes_and_one_are_asked_1_to_3() {
+    for image in [&[][..], &[0]] {
+        assert_eq!(load_into([4095, 512, 1024], image), Err(1));
+        assert_eq!(load_into([4096, 511, 1024], image), Err(2));
+        assert_eq!(load_into([4096, 512, 1023], image), Err(3));
+        assert_eq!(load_into([4095, 511, 1023], image), Err(1));
+        assert_eq!(load_into([4096, 511, 1023], image), Err(2));
+    }
+}
+
+#[test]
+fn two_bytes_are_asked_the_later_questions() {
+    assert_eq!(load_into(GOOD, &[0, 1]), Err(8));
+    assert_eq!(load_into(GOOD, &[0, 0x41]), Err(7));
+}
+
+#[test]
+fn no_bytes_load_the_reset_machine() {
+    let mut machine = used();
+    assert_eq!(load_on(&mut machine, &[]), Ok(()));
+    assert_eq!(machine.state, State::default());
+    assert!(machine.state.timer_a_running && machine.state.timer_b_running);
+    assert_eq!(machine.pages[300], 0x000C);
+    assert!(machine.pages.iter().enumerate().all(|(index, word)| *word == index as u16 % 16));
+    assert!(machine.memory.iter().chain(&machine.ports).all(|word| *word == 0));
+}
+
+#[test]
+fn no_bytes_leave_what_no_entries_leave() {
+    for size in [4096, 8192, 1_048_576] {
+        let (mut bare, mut counted) = (used(), used());
+        bare.memory.resize(size, 0x1750);
+        counted.memory.resize(size, 0x1750);
+        assert_eq!(load_on(&mut bare, &[]), Ok(()));
+        assert_eq!(load_on(&mut counted, &[0, 0]), Ok(()));
+        assert!(bare == counted && bare == Bench::sized(size), "not the reset machine");
+    }
+}
+
+#[test]
+fn steps_from_no_bytes() {
+    let mut machine = used();
+    assert_eq!(load_on(&mut machine, &[]), Ok(()));
+    let after = machine.steps(10);
+    let expected = State {
+        ic: 0x000A,
+        sw: 0x2000,
+        timer_a: 0x000A,
+        timer_b: 0x0001,
+        counter: 10,
+        ..State::default()
+    };
+    assert_eq!(after.state, expected);
+    assert!(after.memory.iter().all(|word| *word == 0));
 }
 
 #[test]

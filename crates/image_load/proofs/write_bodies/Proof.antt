@@ -1,7 +1,7 @@
--- Written by tools/prove.py from answers/image_load.py: answer c3f98ee98a47, proof 1e83975f774b.
+-- Written by tools/prove.py from answers/image_load.py: answer 92dc6aad0757, proof d7005b96639d.
 -- `image_load::write_bodies` meets its contract. Assumes nothing.
 use Prim.Native.Nat.{ℕ, _+_}
-use Rattle.image.proofs.SoundLaws.{entries-within, entries-rest, image-sound}
+use Rattle.image.proofs.SoundLaws.{entries-within, entries-rest, table-sound}
 use Rattle.image.specs.Image.{countOf, wordsBefore, tableEnd, bodyAt, numberOf, entriesAnswer, withBodies}
 use Rattle.image_load.proofs.BodyLaws.{bodies-none, bodies-step, body-next, body-inside, table-inside}
 use Rattle.image_load.proofs.write_bodies.Statement.{statement}
@@ -21,7 +21,7 @@ abbrev μ-loop : tie.MeasureT-loop
 μ-loop image memory₀ pages₀ n t₀ at₀ k₀ left₀ memory pages t at k left = left
 
 count-requires : tie.Need-count-requires Inv-loop μ-loop
-count-requires c κs = image-sound _ _ (c .before .before .before .pre .0) .counted
+count-requires c κs = table-sound _ _ (c .before .before .before .pre .0) (c .before .before .before .pre .1) .counted
 
 mul-at : tie.Need-mul-at Inv-loop μ-loop
 mul-at c = omega arith
@@ -31,22 +31,22 @@ add-at c = omega arith
 
 loop-holds : tie.Need-loop-holds Inv-loop μ-loop
 unfolding tableEnd bodyAt wordsBefore
-loop-holds c = let e = c .count .ensures .0 in (omega (arith, e), omega (arith, e), rw e (image-sound _ _ (c .before .before .before .before .pre .0) .entries), refl, refl, λ ports. rw e refl)
+loop-holds c = let e = c .count .ensures .0 in (omega (arith, e), omega (arith, e), rw e (table-sound _ _ (c .before .before .before .before .pre .0) (c .before .before .before .before .pre .1) .entries), refl, refl, λ ports. rw e refl)
 
 entry-at-requires : tie.Need-entry-at-requires Inv-loop μ-loop
-entry-at-requires c κs = table-inside _ _ (image-sound _ _ (c .before .before .before .before .before .before .pre .0)) _ _ (c .before .loop .inv .0) (c .loop-test .taken)
+entry-at-requires c κs = table-inside _ _ (table-sound _ _ (c .before .before .before .before .before .before .pre .0) (c .before .before .before .before .before .before .pre .1)) _ _ (c .before .loop .inv .0) (c .loop-test .taken)
 
 write-body-requires : tie.Need-write-body-requires Inv-loop μ-loop
-write-body-requires c κs = (entries-within _ _ _ _ (c .before .before .before .loop-test .taken) (c .before .before .before .before .loop .inv .2) _ (c .before .before .entry-at .ensures) _ (c .before .before .before .before .loop .inv .3), c .before .before .before .before .loop .inv .4 ∙ c .before .before .before .before .before .before .before .before .before .pre .1, body-inside _ _ _ (c .before .before .entry-at .ensures) _ (c .before .before .before .before .loop .inv .1) _ (image-sound _ _ (c .before .before .before .before .before .before .before .before .before .pre .0)) _ (c .before .before .before .before .loop .inv .0) (c .before .before .before .loop-test .taken))
+write-body-requires c κs = (entries-within _ _ _ _ (c .before .before .before .loop-test .taken) (c .before .before .before .before .loop .inv .2) _ (c .before .before .entry-at .ensures) _ (c .before .before .before .before .loop .inv .3), c .before .before .before .before .loop .inv .4 ∙ c .before .before .before .before .before .before .before .before .before .pre .2, body-inside _ _ _ (c .before .before .entry-at .ensures) _ (c .before .before .before .before .loop .inv .1) _ (table-sound _ _ (c .before .before .before .before .before .before .before .before .before .pre .0) (c .before .before .before .before .before .before .before .before .before .pre .1)) _ (c .before .before .before .before .loop .inv .0) (c .before .before .before .loop-test .taken))
 
 cast-at : tie.Need-cast-at Inv-loop μ-loop
 cast-at c = search needs
 
 mul-at-2 : tie.Need-mul-at-2 Inv-loop μ-loop
-mul-at-2 c = omega (arith, body-inside _ _ _ (c .before .before .before .before .before .before .before .before .entry-at .ensures) _ (c .before .before .before .before .before .before .before .before .before .before .loop .inv .1) _ (image-sound _ _ (c .before .before .before .before .before .before .before .before .before .before .before .before .before .before .before .pre .0)) _ (c .before .before .before .before .before .before .before .before .before .before .loop .inv .0) (c .before .before .before .before .before .before .before .before .before .loop-test .taken))
+mul-at-2 c = omega (arith, body-inside _ _ _ (c .before .before .before .before .before .before .before .before .entry-at .ensures) _ (c .before .before .before .before .before .before .before .before .before .before .loop .inv .1) _ (table-sound _ _ (c .before .before .before .before .before .before .before .before .before .before .before .before .before .before .before .pre .0) (c .before .before .before .before .before .before .before .before .before .before .before .before .before .before .before .pre .1)) _ (c .before .before .before .before .before .before .before .before .before .before .loop .inv .0) (c .before .before .before .before .before .before .before .before .before .loop-test .taken))
 
 add-at-2 : tie.Need-add-at-2 Inv-loop μ-loop
-add-at-2 c = omega (arith, c .before .before .before .before .before .before .before .before .before .before .before .before .before .before .before .good .1 .0 .0, body-inside _ _ _ (c .before .before .before .before .before .before .before .before .entry-at .ensures) _ (c .before .before .before .before .before .before .before .before .before .before .loop .inv .1) _ (image-sound _ _ (c .before .before .before .before .before .before .before .before .before .before .before .before .before .before .before .pre .0)) _ (c .before .before .before .before .before .before .before .before .before .before .loop .inv .0) (c .before .before .before .before .before .before .before .before .before .loop-test .taken))
+add-at-2 c = omega (arith, c .before .before .before .before .before .before .before .before .before .before .before .before .before .before .before .good .1 .0 .0, body-inside _ _ _ (c .before .before .before .before .before .before .before .before .entry-at .ensures) _ (c .before .before .before .before .before .before .before .before .before .before .loop .inv .1) _ (table-sound _ _ (c .before .before .before .before .before .before .before .before .before .before .before .before .before .before .before .pre .0) (c .before .before .before .before .before .before .before .before .before .before .before .before .before .before .before .pre .1)) _ (c .before .before .before .before .before .before .before .before .before .before .loop .inv .0) (c .before .before .before .before .before .before .before .before .before .loop-test .taken))
 
 add-k : tie.Need-add-k Inv-loop μ-loop
 add-k c = omega arith
