@@ -1,4 +1,4 @@
--- What is left of a user's instruction that took a fast path, or refused. Assumes nothing.
+-- What is left of a user's instruction that took a fast path, or was refused on it. Assumes nothing.
 use Prim.Native.Nat.{ℕ}
 use mathlib.Core.Path.{_≡_}
 use mathlib.Core.Bool.{Bool, true, false}

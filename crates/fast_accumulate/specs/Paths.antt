@@ -18,7 +18,7 @@ use Rattle.isa.specs.Addressing.{accumulator}
 unfoldable pub plain : ℕ → ℕ → Outcome
 plain w x = record { value = x; cs = status w x; overflow = false }
 
--- path 1: A S OR AND of the accumulator a and the operand o; L
+-- wordPath: A S OR AND of the accumulator a and the operand o; L
 unfoldable pub intoSingle : ℕ → ℕ → ℕ → Outcome
 intoSingle operation a o =
     select operation
@@ -29,7 +29,7 @@ intoSingle operation a o =
     [])
     (plain 16 o)
 
--- path 2: DA DS; DL
+-- doublePath: DA DS; DL
 unfoldable pub intoDouble : ℕ → ℕ → ℕ → Outcome
 intoDouble operation a o = select operation ((59, sum 32 a o) ∷ (67, difference 32 a o) ∷ []) (plain 32 o)
 
@@ -37,10 +37,10 @@ intoDouble operation a o = select operation ((59, sum 32 a o) ∷ (67, differenc
 unfoldable pub target : Instruction → ℕ
 target n = cond (eqb (operationOf (n .form)) 39) (accumulator n) (fieldA (n .first))
 
--- path 3: ST; STC
+-- storePath: ST; STC
 unfoldable pub wordStored : List ℕ → Instruction → ℕ
 wordStored regs n = cond (eqb (operationOf (n .form)) 45) (register regs (accumulator n)) (fieldA (n .first))
 
--- path 4: JC; the branches
+-- branchPath: JC; the branches
 unfoldable pub isTaken : Instruction → ℕ → Bool
 isTaken n cs = cond (eqb (operationOf (n .form)) 24) (jumpTaken (fieldA (n .first)) cs) (branchTaken (operationOf (n .form)) cs)

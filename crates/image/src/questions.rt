@@ -112,7 +112,7 @@ fn check_entries(image: &[u8], memory: usize, n: usize) -> Loading
     Loading::Accepted
 }
 
-// The questions to a table and its bodies.
+// The questions to a table and its bodies. Its caller has found that there are two bytes.
 fn check_table(image: &[u8], memory: usize) -> Loading
     requires { ⌜ 2 ≤ length (now image) ⌝ }
     ensures { λ r. ⌜ r ≡ tableAnswer memory (now (image .entry)) ⌝ }

@@ -34,7 +34,7 @@ pub record Settled (c d : Core) : Type 0 where
   pub group-kept : groupOf (d .sw) ≡ groupOf (c .sw)
 
 -- what an instruction from the core c says of itself. Open, for speed, is when it says so: `settled` may be false where it could be true. Then the interrupt
--- is chosen anew: what the steps come to is the same. `timer` may be any number that is no timer command, and `register` any where the command does not use it: the state
+-- is chosen anew: what the steps come to is the same. `command` may be any number that is no timer command, and `ra` any where the command does not use it: the state
 -- after it (`after`) is the same.
 pub record Lasting (c : Core) (m : Retired) : Type 0 where
   pub choice-kept : m .settled ≡ true → Settled c (m .core)

@@ -11,7 +11,7 @@ use Rattle.machine.specs.Step.{isEntry, action, step}
 pub data Item : Type 0 where
   stepped : Item
 
--- a step of a timeline, by the number of steps before it, and n steps later
+-- a step of a timeline is the number of steps before it; where there is one, it comes n steps later
 unfoldable pub stepsLater : ℕ → Option ℕ → Option ℕ
 stepsLater n none = none
 stepsLater n (some k) = some (n + k)
