@@ -166,6 +166,51 @@ def words(kind, path, k, j, fact, regs=REGS):
     return '(path-%s (@args .n) %d %d %d %s (omega arith) refl refl refl refl refl %s)' % (kind, path, k, j, fact, regs)
 
 
+# the texts of calls one after another
+def texts(*calls):
+    first, rest = '@%s .ensures .0' % calls[0], calls[1:]
+    return 'then (%s) (%s)' % (first, texts(*rest)) if rest else first
+
+
+# a function that makes calls one after another: their texts are its text, by the laws of texts and a definition of a place
+def row_of(laws, place, unfolds, *calls, digits=(), facts=()):
+    near = ', '.join(['arith'] + ['@%s .ensures .1' % f for f in facts])
+    back = 'rw (%s) ' % ', '.join('← @%s .ensures' % d for d in digits) if digits else ''
+    return {'use': [OMEGA, EQUATIONS, laws + '{then}', place + '{%s}' % unfolds], 'unf': {'*': unfolds},
+        'returns': back + '(%s, omega %s)' % (texts(*calls), '(%s)' % near if facts else near)}
+
+
+# so many calls of a function
+def numbered(name, n):
+    return [name + (str(k) if k > 1 else '') for k in range(1, n + 1)]
+
+
+# a test that failed, and one that passed, as a rewrite
+FAILED = {'<': 'le-ltb _ _ (%s)', '=': 'ne-eqb _ _ (%s)', '≠': 'eq-eqb _ _ (%s)', '≤': 'lt-leb _ _ (%s)'}
+PASSED = {'<': 'lt-ltb _ _ (%s)', '=': 'eq-eqb _ _ (%s)', '≠': 'ne-eqb _ _ (%s)', '≤': 'le-leb _ _ (%s)'}
+
+
+# an answer for each return in order
+def each_return(answers):
+    return {'returns' + ('-%d' % n if n > 1 else ''): answer for n, answer in enumerate(answers, 1)}
+
+
+# the returns of tests one after another: those before one have failed, the last return comes after all of them
+def tested(tests, answer):
+    rows = []
+    for n in range(len(tests) + 1):
+        steps = [FAILED[tests[k]] % ('@if%d .left' % (k + 1)) for k in range(n)]
+        if n < len(tests):
+            steps.append(PASSED[tests[n]] % ('@if%d .taken' % (n + 1)))
+        rows.append(answer(n, steps))
+    return each_return(rows)
+
+
+# the result, and its bound
+def bounded(n, steps):
+    return '(rw (%s) refl, omega arith)' % ', '.join(steps)
+
+
 # the names that answers use, by module, for answers that do not say what they import
 MODULES = {
     'Prim.Native.Nat': 'ℕ _+_ _-_ _*_ _%_ _≤_',

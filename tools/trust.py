@@ -32,7 +32,7 @@ ORDER = {
     'The instruction set': 'isa/Fields isa/Addressing isa/Accesses isa/Effects isa/Words isa/Integers isa/Floats isa/Blocks isa/Execute isa/Commands isa/Mil1750',
     'Two machines compared': 'machine/Isolation run/Calls',
     'Images': 'reset/Reset image image/Image image_load',
-    'The program': 'report/Report program/Printed',
+    'The program': 'text/Texts report/Report program/Printed',
     'The packed state and the C calls': 'packed/Packed capi/Calls',
 }
 # the kinds of lines, each line being of the first that fits

@@ -8,7 +8,8 @@ use Rattle.isa.proofs.OpenFloats.{floats}
 use Rattle.isa.proofs.OpenDecoder.{decoder}
 use Rattle.isa.proofs.OpenInstructions.{instructions}
 use Rattle.image.proofs.Opened.{images}
-use Rattle.report.specs.Report.{digit, hex, leading, decimal, stepsLine, named, controlLine, registers, registersLine, reportOf, refusalOf}
+use Rattle.text.specs.Texts.{digit, hex, leading, decimal}
+use Rattle.report.specs.Report.{stepsLine, named, controlLine, registers, registersLine, reportOf, refusalOf}
 use Rattle.report.proofs.Rows.{line1, line4, exampleLines}
 use Rattle.program.specs.Printed.{unless, lengthNumber, loadNumber, ranText, printed}
 

@@ -1,4 +1,4 @@
 -- The laws of the program's text, and known texts.
-pub mod WroteLaws
+pub mod RegisterLaws
 pub mod Rows
 pub mod Wrong

@@ -1,11 +1,12 @@
--- Known texts, computed: the Scope's report and refusal byte for byte, and decimal numbers. Assumes nothing.
+-- Known texts, computed: the Scope's report and refusal byte for byte. Assumes nothing.
 use Prim.Native.Nat.{ℕ}
 use mathlib.Core.List.{List, [], _∷_, _++_}
 use mathlib.Core.Path.{_≡_, refl}
 use Rattle.machine.specs.declared.State.{State}
 use Rattle.machine.proofs.Opened.{machinery}
 use Rattle.machine.proofs.Samples.{stateAt, stepsOn}
-use Rattle.report.specs.Report.{digit, hex, leading, decimal, stepsLine, named, controlLine, registers, registersLine, reportOf, refusalOf}
+use Rattle.text.specs.Texts.{digit, hex, leading, decimal}
+use Rattle.report.specs.Report.{stepsLine, named, controlLine, registers, registersLine, reportOf, refusalOf}
 
 -- the Scope's example after its 1,000 steps: R3 = 0010, IC 0001, SW 4000 (the report shows neither marks, timers nor counter)
 abbrev example : State
@@ -39,21 +40,3 @@ example-lines = refl
 refused-13 : refusalOf 13 ≡ 114 ∷ 101 ∷ 102 ∷ 117 ∷ 115 ∷ 101 ∷ 100 ∷ 32 ∷ 49 ∷ 51 ∷ 10 ∷ []
 unfolding leading decimal refusalOf
 refused-13 = refl
-
--- the letters of "FEDC BA98", and of "0A5F"
-letters : hex 65244 ++ (hex 47768 ++ hex 2655) ≡ 70 ∷ 69 ∷ 68 ∷ 67 ∷ 66 ∷ 65 ∷ 57 ∷ 56 ∷ 48 ∷ 65 ∷ 53 ∷ 70 ∷ []
-unfolding digit hex
-letters = refl
-
--- the least number, one with a zero inside, and the largest of 32 bits
-decimal-0 : decimal 0 ≡ 48 ∷ []
-unfolding leading decimal
-decimal-0 = refl
-
-decimal-1005 : decimal 1005 ≡ 49 ∷ 48 ∷ 48 ∷ 53 ∷ []
-unfolding leading decimal
-decimal-1005 = refl
-
-decimal-largest : decimal 4294967295 ≡ 52 ∷ 50 ∷ 57 ∷ 52 ∷ 57 ∷ 54 ∷ 55 ∷ 50 ∷ 57 ∷ 53 ∷ []
-unfolding leading decimal
-decimal-largest = refl

@@ -2,17 +2,15 @@
 ghost use mathlib.Core.Path.{_≡_};
 ghost use Prim.Native.Nat.{_+_, _≤_};
 ghost use mathlib.Core.List.{_∷_};
-ghost use Rattle.report.specs.Report.{blank, hex, stepsLine, named, controlLine, registers, registersLine, reportOf, refusalOf, Wrote, Text};
-
-pub mod text;
-
-use crate::text::digit;
-use crate::text::put;
-use crate::text::put_bytes;
-use crate::text::put_decimal;
-use crate::text::put_hex;
+ghost use Rattle.text.specs.Texts.{blank, hex, Wrote, Text};
+ghost use Rattle.report.specs.Report.{stepsLine, named, controlLine, registers, registersLine, reportOf, refusalOf};
 use machine::Core;
 use machine::State;
+use text::digit;
+use text::put;
+use text::put_bytes;
+use text::put_decimal;
+use text::put_hex;
 
 // The line of the steps: at most 17 bytes.
 fn put_steps(out: &mut [u8; 256], at: usize, steps: u32) -> usize

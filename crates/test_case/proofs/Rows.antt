@@ -2,8 +2,8 @@
 use Prim.Native.Nat.{ℕ}
 use mathlib.Core.List.{List, [], _∷_, _++_}
 use mathlib.Core.Path.{_≡_, refl}
-use Rattle.report.specs.Report.{digit, hex, leading, decimal}
-use Rattle.test_case_line.specs.Lines.{digitOf, given, wordOf, sizeOf, limitOf, entryOf, lineOf}
+use Rattle.text.specs.Texts.{digit, hex, leading, decimal, digitOf, given, wordOf}
+use Rattle.test_case_line.specs.Lines.{sizeOf, limitOf, entryOf, lineOf}
 use Rattle.test_case_line.specs.Texts.{entryLine, numberedLine}
 use Rattle.test_case.specs.Case.{lengths, lending, changeLine, changesTo, changes}
 use Rattle.test_case.specs.Session.{Session, Heard, oneMore, begun, onLine, nextLine, onEnd, withByte, onByte, saidIf, closing}

@@ -10,8 +10,9 @@ use lib.ListN.{length, take, getD, length-append}
 use borrow.Author.Tests.{eq-eqb, ne-eqb}
 use Rattle.machine.specs.declared.State.{State}
 use Rattle.machine.specs.declared.Core.{Core}
-use Rattle.report.specs.Report.{hex, leading, decimal, stepsLine, named, controlLine, registers, registersLine, reportOf, Wrote, Text}
-use Rattle.report.proofs.WroteLaws.{then, shown}
+use Rattle.text.specs.Texts.{hex, leading, decimal, Wrote, Text}
+use Rattle.text.proofs.WroteLaws.{then, shown}
+use Rattle.report.specs.Report.{stepsLine, named, controlLine, registers, registersLine, reportOf}
 use Rattle.test_case_line.specs.Texts.{caseLine, timeLine, entryLine, numberedLine}
 use Rattle.test_case.specs.Case.{changeLine, changesTo, changes}
 

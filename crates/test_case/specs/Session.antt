@@ -6,7 +6,7 @@ use mathlib.Core.Path.{_≡_}
 use lib.Dec.{eqb, ltb}
 use lib.ListN.{set, replicate}
 use Rattle.machine.specs.Machine.{machine}
-use Rattle.report.specs.Report.{newline, Text}
+use Rattle.text.specs.Texts.{newline, Text}
 use Rattle.test_case_line.specs.declared.Line.{Line}
 use Rattle.test_case_line.specs.declared.Line.the-variants.{Remark, Entry, Malformed}
 use Rattle.test_case_line.specs.Lines.{lineOf}

@@ -11,8 +11,8 @@ use crate::Lengths;
 use crate::Reading;
 use crate::Turn;
 use crate::input::begin;
-use crate::text::put_changes;
-use crate::text::put_state;
+use crate::output::put_changes;
+use crate::output::put_state;
 use machine::State;
 use run::Ran;
 

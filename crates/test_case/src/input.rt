@@ -1,14 +1,14 @@
 // The input read byte by byte; what is to be written for a byte is put at the start of a buffer.
 ghost use mathlib.Core.Path.{_≡_};
-ghost use Rattle.report.specs.Report.{Text};
+ghost use Rattle.text.specs.Texts.{Text};
 ghost use Rattle.test_case.specs.Session.{sessionOf, begun, onEntry, onEnd, onByte, onLast, closing, Turned};
 use crate::Lengths;
 use crate::Reading;
 use crate::Turn;
 use crate::case_run::run_case;
 use crate::enter::enter;
-use crate::text::put_if;
-use crate::text::put_message;
+use crate::output::put_if;
+use crate::output::put_message;
 use test_case_line::Line;
 
 // A new case after so many lines and cases: everything as after reset.

@@ -3,7 +3,7 @@
 mod case_run;
 mod enter;
 pub mod input;
-mod text;
+mod output;
 
 use machine::State;
 

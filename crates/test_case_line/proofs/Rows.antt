@@ -1,8 +1,9 @@
 -- Known lines, computed (docs/TEST-CASES.md). Assumes nothing.
 use mathlib.Core.List.{[], _∷_}
 use mathlib.Core.Path.{_≡_, refl}
+use Rattle.text.specs.Texts.{digitOf, given, wordOf}
 use Rattle.test_case_line.specs.declared.Line.{Line}
-use Rattle.test_case_line.specs.Lines.{digitOf, given, wordOf, sizeOf, limitOf, entryOf, lineOf}
+use Rattle.test_case_line.specs.Lines.{sizeOf, limitOf, entryOf, lineOf}
 
 -- "M 0100 82FA"
 memory-line : lineOf (77 ∷ 32 ∷ 48 ∷ 49 ∷ 48 ∷ 48 ∷ 32 ∷ 56 ∷ 50 ∷ 70 ∷ 65 ∷ 0 ∷ []) 11 ≡ Line.Entry 77 256 33530

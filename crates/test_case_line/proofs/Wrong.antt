@@ -7,11 +7,11 @@ use lib.ListN.{set, replicate}
 use Rattle.choice.proofs.Rows.{Row, some, hold}
 use Rattle.machine.specs.declared.State.{State}
 use Rattle.machine.proofs.Opened.{machinery}
-use Rattle.report.specs.Report.{digit, hex, leading, decimal}
+use Rattle.text.specs.Texts.{digit, hex, leading, decimal, digitOf, given, wordOf}
 use Rattle.packed.specs.Packed.{marks, marked, markAt, marksOf, withMarks, layout, unpacked, packed}
 use Rattle.test_case_line.specs.declared.Line.{Line}
 use Rattle.test_case_line.specs.declared.Line.the-variants.{Remark, Entry, Malformed}
-use Rattle.test_case_line.specs.Lines.{digitOf, given, wordOf, sizeOf, limitOf, entryOf, lineOf}
+use Rattle.test_case_line.specs.Lines.{sizeOf, limitOf, entryOf, lineOf}
 use Rattle.test_case_line.specs.Fields.{placeOf, withWord}
 use Rattle.test_case_line.specs.Texts.{caseLine, timeLine, entryLine, numberedLine}
 
@@ -50,12 +50,12 @@ rows =
     ∷ some (let t = withWord s 18 9 in t .core .sw ∷ t .core .mk ∷ t .core .pi ∷ []) (2 ∷ 9 ∷ 4 ∷ []) (2 ∷ 3 ∷ 9 ∷ []) (9 ∷ 3 ∷ 4 ∷ [])
     -- set::state: the counter's high word set by the number of its low word; the counter left as it was
     ∷ some (withWord s 25 9 .clock .count ∷ []) (9 ∷ []) (589836 ∷ []) (12 ∷ [])
-    -- text::case_line: number and answer exchanged; the newline left out
+    -- output::case_line: number and answer exchanged; the newline left out
     ∷ some (caseLine 7 5)
     (99 ∷ 97 ∷ 115 ∷ 101 ∷ 32 ∷ 55 ∷ 32 ∷ 97 ∷ 110 ∷ 115 ∷ 119 ∷ 101 ∷ 114 ∷ 32 ∷ 53 ∷ 10 ∷ [])
     (99 ∷ 97 ∷ 115 ∷ 101 ∷ 32 ∷ 53 ∷ 32 ∷ 97 ∷ 110 ∷ 115 ∷ 119 ∷ 101 ∷ 114 ∷ 32 ∷ 55 ∷ 10 ∷ [])
     (99 ∷ 97 ∷ 115 ∷ 101 ∷ 32 ∷ 55 ∷ 32 ∷ 97 ∷ 110 ∷ 115 ∷ 119 ∷ 101 ∷ 114 ∷ 32 ∷ 53 ∷ [])
-    -- text::time_line: the timers exchanged; the counter in hexadecimal
+    -- output::time_line: the timers exchanged; the counter in hexadecimal
     ∷ some (timeLine s)
     (116 ∷ 97 ∷ 32 ∷ 48 ∷ 48 ∷ 48 ∷ 65 ∷ 32 ∷ 116 ∷ 98 ∷ 32 ∷ 48 ∷ 48 ∷ 49 ∷ 52 ∷ 32 ∷ 109 ∷ 97 ∷ 114 ∷ 107 ∷ 115 ∷ 32 ∷ 48 ∷ 48 ∷
     48 ∷ 53 ∷ 32 ∷ 99 ∷ 111 ∷ 117 ∷ 110 ∷ 116 ∷ 32 ∷ 49 ∷ 50 ∷ 10 ∷ [])
@@ -63,12 +63,12 @@ rows =
     48 ∷ 53 ∷ 32 ∷ 99 ∷ 111 ∷ 117 ∷ 110 ∷ 116 ∷ 32 ∷ 49 ∷ 50 ∷ 10 ∷ [])
     (116 ∷ 97 ∷ 32 ∷ 48 ∷ 48 ∷ 48 ∷ 65 ∷ 32 ∷ 116 ∷ 98 ∷ 32 ∷ 48 ∷ 48 ∷ 49 ∷ 52 ∷ 32 ∷ 109 ∷ 97 ∷ 114 ∷ 107 ∷ 115 ∷ 32 ∷ 48 ∷ 48 ∷
     48 ∷ 53 ∷ 32 ∷ 99 ∷ 111 ∷ 117 ∷ 110 ∷ 116 ∷ 32 ∷ 67 ∷ 10 ∷ [])
-    -- text::entry_line: number and word exchanged; the kind without a blank after it
+    -- output::entry_line: number and word exchanged; the kind without a blank after it
     ∷ some (entryLine 77 0x0012 0x00AB)
     (77 ∷ 32 ∷ 48 ∷ 48 ∷ 49 ∷ 50 ∷ 32 ∷ 48 ∷ 48 ∷ 65 ∷ 66 ∷ 10 ∷ [])
     (77 ∷ 32 ∷ 48 ∷ 48 ∷ 65 ∷ 66 ∷ 32 ∷ 48 ∷ 48 ∷ 49 ∷ 50 ∷ 10 ∷ [])
     (77 ∷ 48 ∷ 48 ∷ 49 ∷ 50 ∷ 32 ∷ 48 ∷ 48 ∷ 65 ∷ 66 ∷ 10 ∷ [])
-    -- text::numbered_line: a blank before the number; the newline left out
+    -- output::numbered_line: a blank before the number; the newline left out
     ∷ some (numberedLine (110 ∷ 111 ∷ 32 ∷ []) 12)
     (110 ∷ 111 ∷ 32 ∷ 49 ∷ 50 ∷ 10 ∷ [])
     (110 ∷ 111 ∷ 32 ∷ 32 ∷ 49 ∷ 50 ∷ 10 ∷ [])

@@ -1,29 +1,12 @@
 -- Input lines (docs/TEST-CASES.md). A line is the list of its first twelve bytes and the number of all of them. Assumes nothing.
-use Prim.Native.Nat.{ℕ, _+_, _*_, _-_}
+use Prim.Native.Nat.{ℕ}
 use mathlib.Core.Bool.{cond}
 use mathlib.Core.List.{List, [], _∷_}
 use lib.Dec.{eqb, ltb, leb}
 use lib.ListN.{getD}
 use Rattle.choice.specs.Select.{select}
+use Rattle.text.specs.Texts.{wordOf}
 use Rattle.test_case_line.specs.declared.Line.{Line}
-
--- ---- numbers
-
--- the value of a hexadecimal digit, "0" to "9" or "A" to "F"; 16 for any other byte
-unfoldable pub digitOf : ℕ → ℕ
-digitOf b = cond (ltb b 48) 16 (cond (ltb b 58) (b - 48) (cond (ltb b 65) 16 (cond (ltb b 71) (b - 55) 16)))
-
--- a number unless a digit is none
-unfoldable pub given : ℕ → ℕ → ℕ
-given digit n = cond (ltb 15 digit) 65536 n
-
--- the word of four digits; 65,536 where one of them is none
-unfoldable pub wordOf : ℕ → ℕ → ℕ → ℕ → ℕ
-wordOf a b c d =
-    given (digitOf a)
-    (given (digitOf b)
-    (given (digitOf c)
-    (given (digitOf d) (digitOf a * 4096 + digitOf b * 256 + digitOf c * 16 + digitOf d))))
 
 -- ---- kinds: "S" a word of the state, "M" of memory, "P" a page register, "O" a port, "L" a length, "G" a run
 

@@ -2,7 +2,7 @@
 use Prim.Native.Nat.{ℕ}
 use mathlib.Core.List.{List, [], _∷_, _++_}
 use Rattle.machine.specs.declared.State.{State}
-use Rattle.report.specs.Report.{newline, blank, hex, decimal}
+use Rattle.text.specs.Texts.{newline, blank, hex, decimal}
 use Rattle.packed.specs.Packed.{marksOf}
 
 -- "case ", the case's number, " answer ", the number of the run's answer

@@ -1,7 +1,7 @@
 // The lines of the program `test_cases` (docs/TEST-CASES.md): an input line, the words that it sets, and the lines of a case's text.
 pub mod lines;
+pub mod output;
 pub mod set;
-pub mod text;
 
 // An input line: a remark; an entry's kind letter, number and word; or neither.
 pub enum Line {

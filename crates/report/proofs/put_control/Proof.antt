@@ -1,9 +1,9 @@
--- Written by tools/prove.py from answers/report.py: answer da7fcd05270d, proof 8a3875239061.
+-- Written by tools/prove.py from answers/report.py: answer d007bce58f4f, proof 6b509cf68b7e.
 -- `report::put_control` meets its contract. Assumes nothing.
-use Rattle.report.proofs.WroteLaws.{then}
 use Rattle.report.proofs.put_control.Statement.{statement}
 use Rattle.report.proofs.put_control.Tie as tie
 use Rattle.report.specs.Report.{controlLine}
+use Rattle.text.proofs.WroteLaws.{then}
 use borrow.Author.Needs.{needs}
 use native.Mathlib.Omega.{arith}
 

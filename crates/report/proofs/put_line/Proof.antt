@@ -1,9 +1,9 @@
--- Written by tools/prove.py from answers/report.py: answer d7717545e0ea, proof e84407fc0e55.
+-- Written by tools/prove.py from answers/report.py: answer 15eeb11339ae, proof 51ee8d38ad36.
 -- `report::put_line` meets its contract. Assumes nothing.
-use Rattle.report.proofs.WroteLaws.{then}
 use Rattle.report.proofs.put_line.Statement.{statement}
 use Rattle.report.proofs.put_line.Tie as tie
 use Rattle.report.specs.Report.{registersLine}
+use Rattle.text.proofs.WroteLaws.{then}
 use borrow.Author.Needs.{needs}
 use native.Mathlib.Omega.{arith}
 

@@ -1,9 +1,9 @@
--- Written by tools/prove.py from answers/report.py: answer ceea406b2d98, proof c2fc65ef2d61.
+-- Written by tools/prove.py from answers/report.py: answer 2539ecf0d6ad, proof 4eee8f2d3a66.
 -- `report::put_named` meets its contract. Assumes nothing.
-use Rattle.report.proofs.WroteLaws.{then}
 use Rattle.report.proofs.put_named.Statement.{statement}
 use Rattle.report.proofs.put_named.Tie as tie
 use Rattle.report.specs.Report.{named}
+use Rattle.text.proofs.WroteLaws.{then}
 use borrow.Author.Needs.{needs}
 use native.Mathlib.Omega.{arith}
 

@@ -1,8 +1,8 @@
--- Written by tools/prove.py from answers/report.py: answer 7aaf930bfef2, proof c6f9f8f9be63.
+-- Written by tools/prove.py from answers/report.py: answer 1ab307870d84, proof 01db1268aeb5.
 -- `report::put_register` meets its contract. Assumes nothing.
-use Rattle.report.proofs.WroteLaws.{then}
 use Rattle.report.proofs.put_register.Statement.{statement}
 use Rattle.report.proofs.put_register.Tie as tie
+use Rattle.text.proofs.WroteLaws.{then}
 use borrow.Author.Needs.{needs}
 use native.Mathlib.Omega.{arith}
 

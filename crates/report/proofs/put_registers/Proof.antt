@@ -1,10 +1,12 @@
--- Written by tools/prove.py from answers/report.py: answer ff69adeeb5fa, proof b0824236dced.
+-- Written by tools/prove.py from answers/report.py: answer c8d56b6adca3, proof d857cbe85147.
 -- `report::put_registers` meets its contract. Assumes nothing.
 use Prim.Native.Nat.{_+_, _*_, _-_, _≤_}
-use Rattle.report.proofs.WroteLaws.{wrote-none, registers-more, registers-all}
+use Rattle.report.proofs.RegisterLaws.{registers-more, registers-all}
 use Rattle.report.proofs.put_registers.Statement.{statement}
 use Rattle.report.proofs.put_registers.Tie as tie
-use Rattle.report.specs.Report.{registers, Wrote}
+use Rattle.report.specs.Report.{registers}
+use Rattle.text.proofs.WroteLaws.{wrote-none}
+use Rattle.text.specs.Texts.{Wrote}
 use mathlib.Core.Path.{_≡_}
 use native.Mathlib.Omega.{arith}
 

@@ -1,9 +1,9 @@
--- Written by tools/prove.py from answers/report.py: answer 37792b7bc5af, proof d8327623fdbf.
+-- Written by tools/prove.py from answers/report.py: answer 5dff6d2fb35c, proof 9fb8204227f6.
 -- `report::put_steps` meets its contract. Assumes nothing.
-use Rattle.report.proofs.WroteLaws.{then}
 use Rattle.report.proofs.put_steps.Statement.{statement}
 use Rattle.report.proofs.put_steps.Tie as tie
 use Rattle.report.specs.Report.{stepsLine}
+use Rattle.text.proofs.WroteLaws.{then}
 use borrow.Author.Needs.{needs}
 use native.Mathlib.Omega.{arith}
 

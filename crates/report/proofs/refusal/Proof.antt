@@ -1,9 +1,9 @@
--- Written by tools/prove.py from answers/report.py: answer 0b1a0bfa140e, proof e552a2fe17c5.
+-- Written by tools/prove.py from answers/report.py: answer bfef4a3f667f, proof af1a54ce02b5.
 -- `report::refusal` meets its contract. Assumes nothing.
-use Rattle.report.proofs.WroteLaws.{then, whole}
 use Rattle.report.proofs.refusal.Statement.{statement}
 use Rattle.report.proofs.refusal.Tie as tie
 use Rattle.report.specs.Report.{refusalOf}
+use Rattle.text.proofs.WroteLaws.{then, whole}
 use borrow.Author.Needs.{needs}
 
 returns : tie.Need-returns

@@ -1,9 +1,9 @@
--- Written by tools/prove.py from answers/report.py: answer 61a31818f55b, proof 63ca34a4b742.
+-- Written by tools/prove.py from answers/report.py: answer f19110b7007a, proof 4ba1eff6cbb9.
 -- `report::report` meets its contract. Assumes nothing.
-use Rattle.report.proofs.WroteLaws.{then, whole}
 use Rattle.report.proofs.report.Statement.{statement}
 use Rattle.report.proofs.report.Tie as tie
 use Rattle.report.specs.Report.{reportOf}
+use Rattle.text.proofs.WroteLaws.{then, whole}
 use borrow.Author.Needs.{needs}
 
 returns : tie.Need-returns

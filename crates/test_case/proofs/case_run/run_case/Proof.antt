@@ -1,10 +1,10 @@
--- Written by tools/prove.py from answers/test_case.py: answer 484f2583bf07, proof adf490365b90.
+-- Written by tools/prove.py from answers/test_case.py: answer 6eac3e73e805, proof 371caebb8418.
 -- `test_case::case_run::run_case` meets its contract. Assumes nothing.
-use Rattle.report.proofs.WroteLaws.{then, whole}
 use Rattle.test_case.proofs.CaseLaws.{one-more, text-is}
 use Rattle.test_case.proofs.case_run.run_case.Statement.{statement}
 use Rattle.test_case.proofs.case_run.run_case.Tie as tie
 use Rattle.test_case.specs.Session.{onRun, sessionOf}
+use Rattle.text.proofs.WroteLaws.{then, whole}
 use borrow.Author.Needs.{needs}
 
 returns : tie.Need-returns

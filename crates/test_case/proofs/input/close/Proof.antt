@@ -1,10 +1,10 @@
--- Written by tools/prove.py from answers/test_case.py: answer bec37244820e, proof c972fb38de70.
+-- Written by tools/prove.py from answers/test_case.py: answer 02fa36484e22, proof f95a5c0f0140.
 -- `test_case::input::close` meets its contract. Assumes nothing.
-use Rattle.report.proofs.WroteLaws.{then, whole}
 use Rattle.test_case.proofs.CaseLaws.{one-more}
 use Rattle.test_case.proofs.input.close.Statement.{statement}
 use Rattle.test_case.proofs.input.close.Tie as tie
 use Rattle.test_case.specs.Session.{closing}
+use Rattle.text.proofs.WroteLaws.{then, whole}
 use borrow.Author.Needs.{needs}
 
 returns : tie.Need-returns

@@ -1,10 +1,10 @@
--- Written by tools/prove.py from answers/test_case.py: answer 398d9c529e14, proof af2fa7021d75.
+-- Written by tools/prove.py from answers/test_case.py: answer 7dc6f9eaed82, proof 52652c4a64c2.
 -- `test_case::input::end_line` meets its contract. Assumes nothing.
-use Rattle.report.proofs.WroteLaws.{wrote-none, whole}
 use Rattle.test_case.proofs.CaseLaws.{one-more, text-is}
 use Rattle.test_case.proofs.input.end_line.Statement.{statement}
 use Rattle.test_case.proofs.input.end_line.Tie as tie
 use Rattle.test_case.specs.Session.{onLine, nextLine, onEnd, sessionOf}
+use Rattle.text.proofs.WroteLaws.{wrote-none, whole}
 use borrow.Author.Needs.{needs}
 use mathlib.Core.Path.{refl}
 

@@ -1,10 +1,10 @@
--- Written by tools/prove.py from answers/test_case.py: answer b4d5e6094471, proof 0c2772794e77.
+-- Written by tools/prove.py from answers/test_case.py: answer 1669c044db3c, proof cf81de3e41a3.
 -- `test_case::input::finish` meets its contract. Assumes nothing.
-use Rattle.report.proofs.WroteLaws.{wrote-none, whole}
 use Rattle.test_case.proofs.CaseLaws.{text-is}
 use Rattle.test_case.proofs.input.finish.Statement.{statement}
 use Rattle.test_case.proofs.input.finish.Tie as tie
 use Rattle.test_case.specs.Session.{onLast, sessionOf}
+use Rattle.text.proofs.WroteLaws.{wrote-none, whole}
 use borrow.Author.Needs.{needs}
 use borrow.Author.Tests.{eq-eqb, ne-eqb}
 use mathlib.Core.Path.{refl}

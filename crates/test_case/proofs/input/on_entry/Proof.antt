@@ -1,10 +1,10 @@
--- Written by tools/prove.py from answers/test_case.py: answer 0812b92b64df, proof 2b2a8b243825.
+-- Written by tools/prove.py from answers/test_case.py: answer dff1fa7e031c, proof 1c3c605e748d.
 -- `test_case::input::on_entry` meets its contract. Assumes nothing.
-use Rattle.report.proofs.WroteLaws.{wrote-none, whole}
 use Rattle.test_case.proofs.CaseLaws.{text-is}
 use Rattle.test_case.proofs.input.on_entry.Statement.{statement}
 use Rattle.test_case.proofs.input.on_entry.Tie as tie
 use Rattle.test_case.specs.Session.{onEntry}
+use Rattle.text.proofs.WroteLaws.{wrote-none, whole}
 use borrow.Author.Needs.{needs}
 use borrow.Author.Tests.{eq-eqb, ne-eqb}
 

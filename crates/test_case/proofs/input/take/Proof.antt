@@ -1,10 +1,10 @@
--- Written by tools/prove.py from answers/test_case.py: answer ba28ed6f2db5, proof b08bc3d6f777.
+-- Written by tools/prove.py from answers/test_case.py: answer ca49278ced17, proof 900a6123a61d.
 -- `test_case::input::take` meets its contract. Assumes nothing.
-use Rattle.report.proofs.WroteLaws.{wrote-none, whole}
 use Rattle.test_case.proofs.CaseLaws.{text-is}
 use Rattle.test_case.proofs.input.take.Statement.{statement}
 use Rattle.test_case.proofs.input.take.Tie as tie
 use Rattle.test_case.specs.Session.{withByte, onByte, sessionOf}
+use Rattle.text.proofs.WroteLaws.{wrote-none, whole}
 use borrow.Author.Needs.{needs}
 use borrow.Author.Tests.{eq-eqb, ne-eqb, lt-ltb, le-ltb}
 use mathlib.Core.Path.{refl}

@@ -1,0 +1,101 @@
+// Text put into a buffer of 262,144 bytes from a place on; each function returns the place after it. Each caller leaves room for it. A case's
+// text is at most 768 bytes of state and 12 for each word that has changed.
+ghost use mathlib.Core.Path.{_≡_};
+ghost use Prim.Native.Nat.{_+_, _*_, _≤_};
+ghost use lib.ListN.{length};
+ghost use Rattle.text.specs.Texts.{Wrote};
+ghost use Rattle.test_case_line.specs.Texts.{entryLine, numberedLine};
+ghost use Rattle.test_case.specs.Case.{changes, stateLines};
+ghost use Rattle.test_case.specs.Session.{saidIf};
+use machine::State;
+use test_case_line::output::case_line;
+use test_case_line::output::entry_line;
+use test_case_line::output::numbered_line;
+use test_case_line::output::time_line;
+use text::copy;
+
+fn add(out: &mut [u8; 262144], at: usize, line: &[u8]) -> usize
+    requires { ⌜ at + length (now line) ≤ 262144 ⌝ }
+    ensures { λ r. ⌜ (Wrote (now (out .entry)) at (now (line .entry)) (now (out .exit)) r) × (r ≡ at + length (now (line .entry))) ⌝ }
+{
+    copy(out, at, line)
+}
+
+// A message of at most 200 bytes and a number.
+pub(crate) fn put_message(out: &mut [u8; 262144], at: usize, message: &[u8], number: u32) -> usize
+    requires { ⌜ (at + 256 ≤ 262144) × (length (now message) ≤ 200) ⌝ }
+    ensures { λ r. ⌜ (Wrote (now (out .entry)) at (numberedLine (now (message .entry)) number) (now (out .exit)) r) × (r ≤ at + 256) ⌝ }
+{
+    let mut line = [0u8; 256];
+    let end = numbered_line(message, number, &mut line);
+    add(out, at, &line[..end])
+}
+
+// The same where it is to be said.
+pub(crate) fn put_if(
+    out: &mut [u8; 262144],
+    at: usize,
+    said: bool,
+    message: &[u8],
+    number: u32,
+) -> usize
+    requires { ⌜ (at + 256 ≤ 262144) × (length (now message) ≤ 200) ⌝ }
+    ensures { λ r. ⌜ (Wrote (now (out .entry)) at (saidIf said (now (message .entry)) number) (now (out .exit)) r) × (r ≤ at + 256) ⌝ }
+{
+    if said {
+        return put_message(out, at, message, number);
+    }
+    at
+}
+
+// A case's number, the number of its run's answer, its steps, and the state after it.
+pub(crate) fn put_state(
+    out: &mut [u8; 262144],
+    number: u32,
+    answer: u32,
+    steps: u32,
+    state: State,
+) -> usize
+    ensures { λ r. ⌜ (Wrote (now (out .entry)) 0 (stateLines number answer steps state) (now (out .exit)) r) × (r ≤ 768) ⌝ }
+{
+    let mut line = [0u8; 256];
+    let end = case_line(number, answer, &mut line);
+    let at = add(out, 0, &line[..end]);
+    let end = report::report(steps, state, &mut line);
+    let at = add(out, at, &line[..end]);
+    let end = time_line(state, &mut line);
+    add(out, at, &line[..end])
+}
+
+// An entry.
+fn put_entry(out: &mut [u8; 262144], at: usize, kind: u8, number: u16, word: u16) -> usize
+    requires { ⌜ at + 12 ≤ 262144 ⌝ }
+    ensures { λ r. ⌜ (Wrote (now (out .entry)) at (entryLine kind number word) (now (out .exit)) r) × (r ≡ at + 12) ⌝ }
+{
+    let mut line = [0u8; 256];
+    let end = entry_line(kind, number, word, &mut line);
+    add(out, at, &line[..end])
+}
+
+// The entries of the words that have changed.
+pub(crate) fn put_changes(
+    out: &mut [u8; 262144],
+    at: usize,
+    kind: u8,
+    before: &[u16],
+    after: &[u16],
+) -> usize
+    requires { ⌜ (length (now before) ≡ length (now after)) × (length (now after) ≤ 16384) × (at + 12 * length (now after) ≤ 262144) ⌝ }
+    ensures { λ r. ⌜ (Wrote (now (out .entry)) at (changes kind (now (before .entry)) (now (after .entry))) (now (out .exit)) r) × (r ≤ at + 12 * length (now (after .entry))) ⌝ }
+{
+    let mut to = at;
+    let mut n: usize = 0;
+    while n < after.len() {
+        let i = n;
+        n += 1;
+        if before[i] != after[i] {
+            to = put_entry(out, to, kind, i as u16, after[i]);
+        }
+    }
+    to
+}
