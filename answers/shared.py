@@ -236,3 +236,12 @@ def importing(modules, answers):
         used = {module: [name for name in names.split() if name.strip('_') in words] for module, names in {**MODULES, **modules}.items()}
         answer['use'] = ['%s.{%s}' % (module, ', '.join(names)) for module, names in used.items() if names]
     return answers
+
+
+# a program that reads its input in pieces, byte by byte, and writes the text of each byte
+def reader():
+    return importing({'lib.ListN': 'length length-take'}, {
+        'write': {'slice-aggregate-write-all': 'omega (arith, length-take (@args .end) (@args .out .now))'},
+        'take_all': {'Inv-loop': 'Unit {0}', 'μ-loop': 'length bytes - i'},
+        'read_all': {'Inv-loop': 'Unit {0}', 'μ-loop': 'left'},
+    })

@@ -27,6 +27,7 @@ A = {
     'put_leading': {'use': [OMEGA, EQUATIONS, LIMITS, TEXTS + '{leading}', LAWS + '{wrote-none}'], 'unf': {'*': 'leading'},
         'returns': 'rw (lt-ltb _ _ (@if1 .taken)) (wrote-none _ _, omega arith)', 'returns-2': 'rw (le-ltb _ _ (@if1 .left)) (@put .ensures .0, omega arith)'},
     'put_decimal': row('decimal', *numbered('put-leading', 9), 'put', facts=numbered('put-leading', 9)),
+    'numbered_line': {'use': [OMEGA, LAWS + '{then, whole}', TEXTS + '{numberedLine}'], 'unf': {'*': 'numberedLine'}, 'returns': 'whole (%s)' % texts('put-bytes', 'put-decimal', 'put')},
     'read/digit': {'use': [EQUATIONS, OMEGA, COMPARISONS, TEXTS + '{digitOf}'], 'unf': {'*': 'digitOf'},
         **tested('<<<<', bounded)},
     'read/word': {'use': [EQUATIONS, OMEGA, COMPARISONS, TEXTS + '{digitOf, given, wordOf}'], 'unf': {'*': 'given wordOf'},

@@ -20,6 +20,7 @@ mod float_machine;
 mod image;
 mod interrupt;
 mod jump;
+pub mod lines;
 mod load;
 mod logic;
 mod machine;

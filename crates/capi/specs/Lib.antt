@@ -1,2 +1,3 @@
--- The definitions of the two calls.
+-- The definitions of the calls: on a packed state, and on mnemonic lines.
 pub mod Calls
+pub mod LineCalls

@@ -2,9 +2,9 @@
 use Prim.Native.Nat.{ℕ}
 use mathlib.Core.List.{List, [], _∷_, _++_}
 use mathlib.Core.Path.{_≡_, refl}
-use Rattle.text.specs.Texts.{digit, hex, leading, decimal, digitOf, given, wordOf}
+use Rattle.text.specs.Texts.{digit, hex, leading, decimal, numberedLine, digitOf, given, wordOf}
 use Rattle.test_case_line.specs.Lines.{sizeOf, limitOf, entryOf, lineOf}
-use Rattle.test_case_line.specs.Texts.{entryLine, numberedLine}
+use Rattle.test_case_line.specs.Texts.{entryLine}
 use Rattle.test_case.specs.Case.{lengths, lending, changeLine, changesTo, changes}
 use Rattle.test_case.specs.Session.{Session, Heard, oneMore, begun, onLine, nextLine, onEnd, withByte, onByte, saidIf, closing}
 

@@ -10,10 +10,10 @@ use lib.ListN.{length, take, getD, length-append}
 use borrow.Author.Tests.{eq-eqb, ne-eqb}
 use Rattle.machine.specs.declared.State.{State}
 use Rattle.machine.specs.declared.Core.{Core}
-use Rattle.text.specs.Texts.{hex, leading, decimal, Wrote, Text}
+use Rattle.text.specs.Texts.{hex, leading, decimal, numberedLine, Wrote, Text}
 use Rattle.text.proofs.WroteLaws.{then, shown}
 use Rattle.report.specs.Report.{stepsLine, named, controlLine, registers, registersLine, reportOf}
-use Rattle.test_case_line.specs.Texts.{caseLine, timeLine, entryLine, numberedLine}
+use Rattle.test_case_line.specs.Texts.{caseLine, timeLine, entryLine}
 use Rattle.test_case.specs.Case.{changeLine, changesTo, changes}
 
 -- a line that was made in a buffer of its own

@@ -8,10 +8,10 @@ use Rattle.choice.specs.Table.{tableOf}
 use Rattle.choice.proofs.Rows.{Row, some, hold, flag}
 use Rattle.machine.proofs.Opened.{machinery}
 use Rattle.reset.specs.Reset.{cycle, resetPages, resetMachine}
-use Rattle.text.specs.Texts.{digit, hex, leading, decimal, digitOf, given, wordOf}
+use Rattle.text.specs.Texts.{digit, hex, leading, decimal, numberedLine, digitOf, given, wordOf}
 use Rattle.report.specs.Report.{stepsLine, reportOf}
 use Rattle.test_case_line.specs.Lines.{sizeOf, limitOf, entryOf, lineOf}
-use Rattle.test_case_line.specs.Texts.{caseLine, numberedLine}
+use Rattle.test_case_line.specs.Texts.{caseLine}
 use Rattle.test_case.specs.Case.{fresh, lending, changed, entered, lent, rejoined, ran, stateLines, caseText}
 use Rattle.test_case.specs.Session.{Session, Heard, oneMore, begun, withEntry, onRun, onEntry, onLine, nextLine, onEnd, withByte, onByte, onLast, saidIf, closing}
 

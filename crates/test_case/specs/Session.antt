@@ -6,11 +6,10 @@ use mathlib.Core.Path.{_≡_}
 use lib.Dec.{eqb, ltb}
 use lib.ListN.{set, replicate}
 use Rattle.machine.specs.Machine.{machine}
-use Rattle.text.specs.Texts.{newline, Text}
+use Rattle.text.specs.Texts.{newline, numberedLine, Text}
 use Rattle.test_case_line.specs.declared.Line.{Line}
 use Rattle.test_case_line.specs.declared.Line.the-variants.{Remark, Entry, Malformed}
 use Rattle.test_case_line.specs.Lines.{lineOf}
-use Rattle.test_case_line.specs.Texts.{numberedLine}
 use Rattle.test_case.specs.declared.Reading.{Reading}
 use Rattle.test_case.specs.declared.Turn.{Turn}
 use Rattle.test_case.specs.Case.{Case, case, fresh, entered, caseText}

@@ -3,16 +3,16 @@
 ghost use mathlib.Core.Path.{_≡_};
 ghost use Prim.Native.Nat.{_+_, _*_, _≤_};
 ghost use lib.ListN.{length};
-ghost use Rattle.text.specs.Texts.{Wrote};
-ghost use Rattle.test_case_line.specs.Texts.{entryLine, numberedLine};
+ghost use Rattle.text.specs.Texts.{numberedLine, Wrote};
+ghost use Rattle.test_case_line.specs.Texts.{entryLine};
 ghost use Rattle.test_case.specs.Case.{changes, stateLines};
 ghost use Rattle.test_case.specs.Session.{saidIf};
 use machine::State;
 use test_case_line::output::case_line;
 use test_case_line::output::entry_line;
-use test_case_line::output::numbered_line;
 use test_case_line::output::time_line;
 use text::copy;
+use text::numbered_line;
 
 fn add(out: &mut [u8; 262144], at: usize, line: &[u8]) -> usize
     requires { ⌜ at + length (now line) ≤ 262144 ⌝ }

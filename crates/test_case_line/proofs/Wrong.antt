@@ -13,7 +13,7 @@ use Rattle.test_case_line.specs.declared.Line.{Line}
 use Rattle.test_case_line.specs.declared.Line.the-variants.{Remark, Entry, Malformed}
 use Rattle.test_case_line.specs.Lines.{sizeOf, limitOf, entryOf, lineOf}
 use Rattle.test_case_line.specs.Fields.{placeOf, withWord}
-use Rattle.test_case_line.specs.Texts.{caseLine, timeLine, entryLine, numberedLine}
+use Rattle.test_case_line.specs.Texts.{caseLine, timeLine, entryLine}
 
 abbrev s : State
 s =
@@ -29,7 +29,7 @@ unfolding digitOf given wordOf sizeOf limitOf entryOf lineOf
 lines = tt
 
 unfoldable texts : Unit {0}
-unfolding placeOf withWord marks marked markAt marksOf withMarks layout unpacked packed digit hex leading decimal caseLine timeLine entryLine numberedLine
+unfolding placeOf withWord marks marked markAt marksOf withMarks layout unpacked packed digit hex leading decimal caseLine timeLine entryLine
 texts = tt
 
 -- an entry's kind, number and word; 1 for a remark, 2 for neither
@@ -68,11 +68,6 @@ rows =
     (77 ∷ 32 ∷ 48 ∷ 48 ∷ 49 ∷ 50 ∷ 32 ∷ 48 ∷ 48 ∷ 65 ∷ 66 ∷ 10 ∷ [])
     (77 ∷ 32 ∷ 48 ∷ 48 ∷ 65 ∷ 66 ∷ 32 ∷ 48 ∷ 48 ∷ 49 ∷ 50 ∷ 10 ∷ [])
     (77 ∷ 48 ∷ 48 ∷ 49 ∷ 50 ∷ 32 ∷ 48 ∷ 48 ∷ 65 ∷ 66 ∷ 10 ∷ [])
-    -- output::numbered_line: a blank before the number; the newline left out
-    ∷ some (numberedLine (110 ∷ 111 ∷ 32 ∷ []) 12)
-    (110 ∷ 111 ∷ 32 ∷ 49 ∷ 50 ∷ 10 ∷ [])
-    (110 ∷ 111 ∷ 32 ∷ 32 ∷ 49 ∷ 50 ∷ 10 ∷ [])
-    (110 ∷ 111 ∷ 32 ∷ 49 ∷ 50 ∷ [])
     ∷ []
 
 pub rows-hold : T (hold rows)

@@ -28,7 +28,3 @@ timeLine s =
 -- an entry: its kind letter, its number, its word
 unfoldable pub entryLine : ℕ → ℕ → ℕ → List ℕ
 entryLine k n w = (k ∷ []) ++ ((blank ∷ []) ++ (hex n ++ ((blank ∷ []) ++ (hex w ++ (newline ∷ [])))))
-
--- a message and a number
-unfoldable pub numberedLine : List ℕ → ℕ → List ℕ
-numberedLine m n = m ++ (decimal n ++ (newline ∷ []))

@@ -1,8 +1,6 @@
 // The text of a case, but for the report: its first and last lines, the lines of what it changed, and messages.
-ghost use Prim.Native.Nat.{_≤_};
-ghost use lib.ListN.{length};
 ghost use Rattle.text.specs.Texts.{Text};
-ghost use Rattle.test_case_line.specs.Texts.{caseLine, timeLine, entryLine, numberedLine};
+ghost use Rattle.test_case_line.specs.Texts.{caseLine, timeLine, entryLine};
 use machine::State;
 use packed::marks;
 use text::put;
@@ -45,15 +43,5 @@ pub fn entry_line(kind: u8, number: u16, word: u16, out: &mut [u8; 256]) -> usiz
     let at = put_hex(out, at, number);
     let at = put(out, at, b' ');
     let at = put_hex(out, at, word);
-    put(out, at, b'\n')
-}
-
-// A message of at most 200 bytes and a number.
-pub fn numbered_line(message: &[u8], number: u32, out: &mut [u8; 256]) -> usize
-    requires { ⌜ length (now message) ≤ 200 ⌝ }
-    ensures { λ r. ⌜ Text (now (out .entry)) (numberedLine (now (message .entry)) number) (now (out .exit)) r ⌝ }
-{
-    let at = put_bytes(out, 0, message);
-    let at = put_decimal(out, at, number);
     put(out, at, b'\n')
 }

@@ -1,5 +1,7 @@
 -- Text in a buffer, and numbers as text, written and read. A text is the list of its bytes. Assumes nothing.
 use Prim.Native.Nat.{ℕ, _+_, _*_, _-_, _/_, _%_, _≤_}
+use Prim.Native.Char.{code}
+use Prim.Native.String.{String, [] as []ₛ, _∷_ as _∷ₛ_}
 use mathlib.Core.Bool.{cond}
 use mathlib.Core.List.{List, [], _∷_, _++_}
 use mathlib.Core.Path.{_≡_}
@@ -13,6 +15,11 @@ newline = 10
 
 abbrev pub blank : ℕ
 blank = 32
+
+-- the bytes of a text that is written out
+unfoldable pub bytesOf : String → List ℕ
+bytesOf []ₛ = []
+bytesOf (c ∷ₛ s) = code c ∷ bytesOf s
 
 -- a digit of a number to the base sixteen, letters capital
 unfoldable pub digit : ℕ → ℕ
@@ -41,6 +48,10 @@ decimal n =
     ++ (leading n 100
     ++ (leading n 10
     ++ ((48 + n % 10) ∷ [])))))))))
+
+-- a message and a number, as a line
+unfoldable pub numberedLine : List ℕ → ℕ → List ℕ
+numberedLine m n = m ++ (decimal n ++ (newline ∷ []))
 
 -- ---- numbers, read
 

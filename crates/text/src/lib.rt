@@ -4,7 +4,7 @@ ghost use mathlib.Core.Path.{_≡_};
 ghost use mathlib.Core.List.{[], _∷_};
 ghost use Prim.Native.Nat.{_+_, _<_, _≤_};
 ghost use lib.ListN.{length, set};
-ghost use Rattle.text.specs.Texts.{digit, hex, leading, decimal, Wrote};
+ghost use Rattle.text.specs.Texts.{digit, hex, leading, decimal, numberedLine, Wrote, Text};
 
 pub mod read;
 
@@ -93,4 +93,14 @@ pub fn put_decimal(out: &mut [u8; 256], at: usize, n: u32) -> usize
     let at = put_leading(out, at, n, 100);
     let at = put_leading(out, at, n, 10);
     put(out, at, (48 + n % 10) as u8)
+}
+
+// A message of at most 200 bytes and a number, as a line at the start of the buffer.
+pub fn numbered_line(message: &[u8], number: u32, out: &mut [u8; 256]) -> usize
+    requires { ⌜ length (now message) ≤ 200 ⌝ }
+    ensures { λ r. ⌜ Text (now (out .entry)) (numberedLine (now (message .entry)) number) (now (out .exit)) r ⌝ }
+{
+    let at = put_bytes(out, 0, message);
+    let at = put_decimal(out, at, number);
+    put(out, at, b'\n')
 }

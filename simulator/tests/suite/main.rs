@@ -12,6 +12,7 @@ mod integers;
 mod interrupts;
 mod jumps;
 mod known;
+mod lines;
 mod loads;
 mod logic;
 mod mistakes;

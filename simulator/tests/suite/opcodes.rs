@@ -40,8 +40,9 @@ pub fn indexable(opcode: u16) -> bool {
     TWO.contains(&opcode)
 }
 
-#[test]
-fn every_first_word() {
+/// Has the machine meet every first word, and tells of each the length that it takes it to have, 0
+/// for an illegal one.
+pub fn every_length(mut tell: impl FnMut(u16, u16)) {
     // The word stands last on page 0; page 1 is execute protected, so that a second word faults.
     let mut bench = on(&[]).instruction_page(1, 0x0801);
     bench.memory[0x2B] = 0x0040;
@@ -51,18 +52,24 @@ fn every_first_word() {
         bench.state.ic = 0x0FFF;
         bench.memory[0x0FFF] = word;
         bench = bench.go();
-        let fault = match length(word) {
-            0 => 0x0040,
-            1 => 0,
-            _ => 0x8000,
+        let found = match bench.state.ft {
+            0x0040 => 0,
+            0 => 1,
+            0x8000 => 2,
+            faults => panic!("first word {word:04X}: FT {faults:04X}"),
         };
-        assert_eq!(bench.state.ft, fault, "first word {word:04X}");
-        if fault != 0 {
-            assert_eq!(bench.state.ic, if fault == 0x0040 { 0x1000 } else { 0x1001 });
+        if found != 1 {
+            assert_eq!(bench.state.ic, if found == 0 { 0x1000 } else { 0x1001 });
         } else {
             bench.memory.clone_from(&start.memory);
         }
+        tell(word, found);
     }
+}
+
+#[test]
+fn every_first_word() {
+    every_length(|word, found| assert_eq!(found, length(word), "first word {word:04X}"));
 }
 
 #[test]

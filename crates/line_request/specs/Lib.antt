@@ -1,0 +1,3 @@
+-- The definitions of the program `lines`: requests and answers, and the input read byte by byte.
+pub mod Requests
+pub mod Session

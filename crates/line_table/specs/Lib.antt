@@ -1,0 +1,3 @@
+-- The definitions of the boxes by first words and by mnemonics, and of the table's entries.
+pub mod Boxes
+pub mod Entries
