@@ -1,12 +1,13 @@
 /* An example of the C interface: loads examples/loop.image, runs 1,000 steps and prints the registers as the program `twin` does;
- * then tries lengths that are refused. Run it in the root of the repository. It ends with status 1 if anything is unexpected. */
+ * tries lengths that are refused; then prints instructions as mnemonic lines, reads them back, and tries lines that are refused.
+ * Run it in the root of the repository. It ends with status 1 if anything is unexpected. */
 #include <stdio.h>
 #include <string.h>
 
 #include "twin1750.h"
 
 #if TWIN1750_VERSION != 3
-#error "this example is written for version 2 of the interface"
+#error "this example is written for version 3 of the interface"
 #endif
 
 enum { MEMORY = 16384, STEPS = 1000 };
@@ -88,6 +89,54 @@ static void refused(const char *what, uint32_t number, size_t words, size_t size
     printf("%s: refused %u\n", what, (unsigned)number);
 }
 
+/* The line of an instruction, and that line back. The bytes behind it stay. */
+static void there_and_back(uint16_t first, uint16_t second, const char *line)
+{
+    uint8_t printed[TWIN1750_LINE];
+    uint16_t words[2] = {0x1750, 0x1750};
+    size_t length = 0, count = 0;
+    memset(printed, '#', sizeof printed);
+    expect("print", twin1750_print(first, second, printed, &length), TWIN1750_DONE);
+    expect("length", (uint32_t)length, (uint32_t)strlen(line));
+    expect("bytes that differ", memcmp(printed, line, strlen(line)) != 0, 0);
+    expect("the byte behind the line", printed[length], '#');
+    expect("read", twin1750_read(printed, length, words, &count), TWIN1750_DONE);
+    expect("first word", words[0], first);
+    expect("second word", words[1], count == 2 ? second : 0);
+    printf("%.*s: %04X", (int)length, (const char *)printed, (unsigned)words[0]);
+    if (count == 2)
+        printf(" %04X", (unsigned)words[1]);
+    printf("\n");
+}
+
+/* Reading the line answers the number, and leaves words and count as they were. */
+static void refused_line(const char *line, uint32_t number)
+{
+    uint16_t words[2] = {0x1750, 0x1751};
+    size_t count = 1752;
+    expect(line, twin1750_read((const uint8_t *)line, strlen(line), words, &count), number);
+    if (words[0] != 0x1750 || words[1] != 0x1751 || count != 1752) {
+        fprintf(stderr, "%s: a refusal changed something\n", line);
+        surprises++;
+    }
+    printf("%s: refused %u\n", line, (unsigned)number);
+}
+
+static void lines(void)
+{
+    uint8_t line[TWIN1750_LINE] = "as it was";
+    size_t length = 1750;
+    there_and_back(0x823F, 0, "LISP R3,16");
+    there_and_back(0x8012, 0x0100, "L R1,0100,R2");
+    there_and_back(0x74FE, 0x1750, "BR -2");
+    refused_line("LIPS R3,16", TWIN1750_REFUSED_MNEMONIC);
+    refused_line("LISP R3, 16", TWIN1750_REFUSED_OPERANDS);
+    refused_line("LISP R3,17", TWIN1750_REFUSED_FIELD);
+    expect("4900", twin1750_print(0x4900, 0, line, &length), TWIN1750_REFUSED_MNEMONIC);
+    expect("line or length changed", memcmp(line, "as it was", 10) != 0 || length != 1750, 0);
+    printf("4900: refused %d\n", TWIN1750_REFUSED_MNEMONIC);
+}
+
 int main(void)
 {
     if (!read_image("examples/loop.image"))
@@ -121,5 +170,6 @@ int main(void)
     expect("marks", m.state[TWIN1750_MARKS], TWIN1750_A_RUNS + TWIN1750_B_RUNS);
     expect("word 24", m.state[24], 0);
     expect("the last word", m.state[TWIN1750_STATE - 1], 0);
+    lines();
     return surprises == 0 ? 0 : 1;
 }

@@ -1,4 +1,5 @@
-/* The C interface of the twin of the MIL-STD-1750A: two calls, in the static library libcapi.a.
+/* The C interface of the twin of the MIL-STD-1750A: four calls, in the static library libcapi.a. Two load and run a machine; two go
+ * between the words of an instruction and its mnemonic line.
  *
  * The machine is lent by the caller as four lists of 16-bit words, in the byte order of the host:
  *
@@ -7,10 +8,15 @@
  *   pages    512 page registers: 0 to 255 the instruction set, 256 to 511 the operand set, each at 16 x group + page
  *   ports    1,024 ports
  *
- * Each pointer is followed by the number of elements that it points to. A pointer is not null, also where that number is 0, as with
- * an image of no bytes, and is aligned for its type; no two of the lists overlap, and the image of a load overlaps none of them.
- * Any number may be given, and one that is wrong is refused. A call keeps nothing after it has returned, takes nothing from the
+ * Each pointer to a list is followed by the number of elements that it points to. A pointer is not null, also where that number is
+ * 0, as with an image of no bytes, and is aligned for its type; no two of the lists overlap, and the image of a load overlaps none of
+ * them. Any number may be given, and one that is wrong is refused. A call keeps nothing after it has returned, takes nothing from the
  * heap, and may run beside a call on other lists.
+ *
+ * A mnemonic line is the bytes of one instruction in the mnemonics of section 5 of the standard, such as LISP R3,16. It has no
+ * newline and is not ended by a NUL: its length is a number of its own. The calls on lines take no machine. What they write to has a
+ * size by its type: 256 bytes for a line, two words, one number for a length or a count. The rules for pointers hold for these too;
+ * none of them overlaps another or the line that is read.
  *
  * Words of the packed state (bit 0 is the most significant bit of a word, bit 15 the least significant):
  *
@@ -29,7 +35,8 @@
  * Every word that is not named here, or is kept, is not looked at, and is 0 after a call that is done.
  *
  * An answer is 0 when the call is done, else the number of the first question that was answered by "no". A refusal changes nothing:
- * state, memory, page registers and ports are as they were, down to the words and bits that are not looked at.
+ * state, memory, page registers and ports are as they were, down to the words and bits that are not looked at, and so are the line
+ * and its length, the words and their count.
  */
 #ifndef TWIN1750_H
 #define TWIN1750_H
@@ -49,6 +56,11 @@ enum {
     TWIN1750_STATE = 256,
     TWIN1750_PAGES = 512,
     TWIN1750_PORTS = 1024
+};
+
+/* The bytes that a line is printed into; the longest line has 17. */
+enum {
+    TWIN1750_LINE = 256
 };
 
 /* The words of the packed state after R0 to R15. */
@@ -73,8 +85,9 @@ enum {
     TWIN1750_B_RUNS = 8
 };
 
-/* The answers: done, or the question that was answered by "no". Both calls ask 100 first, then 1 to 3; then a run asks 4 and 5,
- * a load 6 to 12, of which 9 to 11 are asked entry by entry. An image of no bytes is asked none after 6. */
+/* The answers: done, or the question that was answered by "no". A load and a run ask 100 first, then 1 to 3; then a run asks 4 and 5,
+ * a load 6 to 12, of which 9 to 11 are asked entry by entry. An image of no bytes is asked none after 6. Reading a line asks 14, then
+ * 15 of the whole line, then 16; printing asks 14 alone. */
 enum {
     TWIN1750_DONE = 0,
     TWIN1750_REFUSED_MEMORY = 1,        /* is memory a multiple of 4,096 words, from 4,096 to 1,048,576? */
@@ -89,6 +102,9 @@ enum {
     TWIN1750_REFUSED_RANGE = 10,        /* is the length at least 1, and start plus length within the target? */
     TWIN1750_REFUSED_SHARED_WORD = 11,  /* is no word shared with an earlier entry of the same kind? */
     TWIN1750_REFUSED_BODIES = 12,       /* do exactly the bodies follow? */
+    TWIN1750_REFUSED_MNEMONIC = 14,     /* is the mnemonic known? print: does the first word begin a legal instruction? */
+    TWIN1750_REFUSED_OPERANDS = 15,     /* do the operands have the form of the instruction's box? */
+    TWIN1750_REFUSED_FIELD = 16,        /* is each operand inside its field? */
     TWIN1750_REFUSED_STATE = 100        /* is the packed state exactly 256 words? */
 };
 
@@ -106,6 +122,16 @@ uint32_t twin1750_run(uint32_t budget,
                       uint16_t *memory, size_t memory_len,
                       uint16_t *pages, size_t pages_len,
                       uint16_t *ports, size_t ports_len);
+
+/* Prints an instruction: its line at the start of `line`, whose other bytes stay, and the length of the line, at most 17. The second
+ * word is looked at only where the instruction has one. 14: the first word begins no legal instruction. */
+uint32_t twin1750_print(uint16_t first, uint16_t second,
+                        uint8_t line[TWIN1750_LINE], size_t *length);
+
+/* Reads a line of any length: its words, and how many they are, 1 or 2. The second word of an instruction of one word is 0, and so
+ * are the fields of the first that no line shows. 14 to 16: the line is refused. */
+uint32_t twin1750_read(const uint8_t *line, size_t line_len,
+                       uint16_t words[2], size_t *count);
 
 #ifdef __cplusplus
 }

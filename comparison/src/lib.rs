@@ -1,4 +1,4 @@
-//! The twin beside the second simulator: random programs on both, and everything compared.
+//! The twin beside the second simulator: random programs and mnemonic lines on both, and everything compared.
 
 #![forbid(unsafe_code)]
 
@@ -8,6 +8,7 @@ pub mod commands;
 mod compare;
 mod coverage;
 mod images;
+mod lines;
 mod numbers;
 pub mod packed;
 mod plant;
@@ -28,6 +29,7 @@ pub const CASES: u64 = 20_000;
 
 pub use compare::{compare, Batch};
 pub use coverage::Coverage;
+pub use lines::{Buffers, LegalLines, LineBatch, LineDifference, LineSubject, Request, LINES};
 pub use programs::programs;
 pub use simulated::{Simulated, Stepped, Watcher};
 pub use subject::{Call, Lent, Subject};

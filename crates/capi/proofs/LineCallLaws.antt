@@ -1,15 +1,13 @@
 -- The two calls on mnemonic lines, by what the calls that they make answer. Assumes nothing.
 use Prim.Native.Nat.{ℕ}
-use mathlib.Core.Path.{_≡_, refl, sym, ap, _∙_}
+use mathlib.Core.Path.{_≡_, refl, ap}
 use mathlib.Core.List.{List, [], _∷_}
 use native.Mathlib.Omega.{arith}
 use lib.ListN.{length, set}
 use Rattle.line.specs.declared.Printed.{Printed}
 use Rattle.line.specs.declared.Printed.the-variants.{Length, Illegal}
-use Rattle.line.specs.declared.Words.{Words}
-use Rattle.line.specs.declared.Words.the-variants.{One, Two}
-use Rattle.line.specs.Lines.{printed, printNumber, readNumber, Shows}
-use Rattle.capi.specs.LineCalls.{LinePrinted, wordsLeft, countLeft, LineRead}
+use Rattle.line.specs.Lines.{printed, printNumber, Shows}
+use Rattle.capi.specs.LineCalls.{LinePrinted}
 
 -- a line that was printed has a length, and one that was not has none
 lengthIn : Printed → ℕ

@@ -1,7 +1,7 @@
 -- What the code's calls put together: the line that is printed, the words that are read. Assumes nothing.
-use Prim.Native.Nat.{ℕ, _+_, _*_, _-_, _%_, _≤_, _<_}
+use Prim.Native.Nat.{ℕ, _+_, _*_, _-_, _≤_, _<_}
 use mathlib.Core.Path.{_≡_, refl, sym, ap, _∙_}
-use mathlib.Core.Bool.{Bool, true, false, false≢true}
+use mathlib.Core.Bool.{true, false, false≢true}
 use mathlib.Core.List.{List, [], _∷_, _++_, append-nil, map}
 use mathlib.Core.Option.{Option, none, some}
 use native.Mathlib.Omega.{arith}
@@ -11,7 +11,7 @@ use Rattle.text.specs.Texts.{blank, bytesOf, Wrote}
 use Rattle.text.proofs.WroteLaws.{then, whole}
 use Rattle.decode.specs.Pages.{Line}
 use Rattle.line_operand.specs.declared.Parsed.{Parsed}
-use Rattle.line_operand.specs.declared.Parsed.the-variants.{Malformed, Value}
+use Rattle.line_operand.specs.declared.Parsed.the-variants.{Value}
 use Rattle.line_operand.specs.declared.Place.the-variants.{Second}
 use Rattle.line_operand.specs.Numerals.{before, onward, lacks}
 use Rattle.line_operand.specs.Shapes.{covers, shapeOf}
@@ -22,8 +22,7 @@ use Rattle.line_table.specs.declared.Slots.{Slots}
 use Rattle.line_table.specs.Boxes.{sameText, boxOf, boxNamed, baseOf, shapesOf}
 use Rattle.line_table.specs.Entries.{entryIn, entryOf, nameIn, slotsIn, listOf, baseIn}
 use Rattle.line_table.proofs.BoxLaws.{claimed-sound}
-use Rattle.line_table.proofs.EntryLaws.{Kept, claimed-kept, named-kept, padded, tail-padded, reads-padded, covers-padded, slots-shapes}
-use Rattle.line.specs.declared.Printed.{Printed}
+use Rattle.line_table.proofs.EntryLaws.{claimed-kept, named-kept, padded, tail-padded, reads-padded, covers-padded, slots-shapes}
 use Rattle.line.specs.declared.Printed.the-variants.{Length, Illegal}
 use Rattle.line.specs.declared.Words.the-variants.{UnknownMnemonic, BadOperands}
 use Rattle.line.specs.Lines.{lineBy, lineOf, printed, wordsFrom, readBy, readLine, Shows}

@@ -1,12 +1,11 @@
--- There and back: a line's words print as that line; a printed instruction reads back to its words, with the fields that are not looked at as 0; a word prints exactly
--- when it begins a legal instruction. Assumes nothing.
-use Prim.Native.Nat.{ℕ, _+_, _*_, _/_, _%_, _≤_, _<_}
-use mathlib.Core.Path.{_≡_, refl, sym, ap, subst, _∙_}
-use mathlib.Core.Bool.{Bool, true, false, cond, _&&_, _||_, false≢true}
+-- What the theorems on lines rest on (`RoundTrip`): a printed line read, a read line printed, and the decoder's form of a box. Assumes nothing.
+use Prim.Native.Nat.{ℕ, _+_, _*_, _/_, _%_, _<_}
+use mathlib.Core.Path.{_≡_, refl, sym, ap, _∙_}
+use mathlib.Core.Bool.{Bool, true, false, cond, false≢true}
 use mathlib.Core.List.{List, [], _∷_, _++_}
 use mathlib.Core.Option.{Option, none, some}
 use native.Mathlib.Omega.{arith}
-use lib.ListN.{length, length-append}
+use lib.ListN.{length}
 use Rattle.choice.specs.Search.{found}
 use Rattle.choice.specs.Table.{among}
 use Rattle.choice.proofs.TestLaws.{split}
@@ -24,22 +23,20 @@ use Rattle.line_operand.specs.Shapes.{fieldOf, meets, covers}
 use Rattle.line_operand.specs.Operands.{tail, reads}
 use Rattle.line_operand.proofs.NumeralLaws.{cut, onward-starts, cut-plain}
 use Rattle.line_operand.proofs.PlaceLaws.{Digit, lower, upper, base, top, second, field-first, word-same}
-use Rattle.line_operand.proofs.RowLaws.{shown, shown-keeps, shown-held, hides, hides-none, held-digit, Came, tail-starts, tail-reads, reads-tail, Alike, tail-alike, alike-first, alike-both, tail-width}
+use Rattle.line_operand.proofs.RowLaws.{shown, shown-keeps, shown-held, hides, hides-none, held-digit, Came, tail-starts, tail-reads, reads-tail, Alike, tail-alike, alike-first, alike-both}
 use Rattle.line_table.specs.Boxes.{sameText, claimsWord, boxOf, boxNamed, baseOf, shapesOf}
-use Rattle.line_table.proofs.BoxLaws.{Sound, named-sound, claimed-sound, named-name, claimed-claims, claimed-named, named-claimed, kept-claims, claims-kept, top-fixed, no-name}
-use Rattle.line.specs.declared.Words.{Words}
-use Rattle.line.specs.declared.Words.the-variants.{One, Two, UnknownMnemonic, BadOperands, OutsideField}
-use Rattle.line.specs.Lines.{lineBy, lineOf, wordsFrom, readBy, readLine, Prints, clearedWord, clearedBy, cleared}
+use Rattle.line_table.proofs.BoxLaws.{Sound, named-sound, named-name, named-claimed, kept-claims, claims-kept, top-fixed, no-name}
+use Rattle.line.specs.Lines.{lineBy, lineOf, wordsFrom, readBy, readLine, Prints, clearedWord, clearedBy}
 
 -- ---- small facts
 
 -- no line is printed without a box, and nothing is read of it
-nothing-read : (n w v : ℕ) → readLine (lineBy none n) ≡ clearedBy none w v
+pub nothing-read : (n w v : ℕ) → readLine (lineBy none n) ≡ clearedBy none w v
 unfolding readLine readBy before lineBy clearedBy
 nothing-read n w v = rw no-name refl
 
 -- a text with a name in front has bytes
-no-bytes : (t u : List ℕ) → sameText t [] ≡ false → t ++ u ≡ [] → ⊥
+pub no-bytes : (t u : List ℕ) → sameText t [] ≡ false → t ++ u ≡ [] → ⊥
 unfolding sameText
 no-bytes [] u f e = false≢true (sym f)
 no-bytes (x ∷ t) u f e = let z : _≡_ {A = ℕ} 1 0 = ap some-byte e in let y : ⊥ = omega arith in y
@@ -49,11 +46,11 @@ no-bytes (x ∷ t) u f e = let z : _≡_ {A = ℕ} 1 0 = ap some-byte e in let y
     some-byte (x ∷ t) = 1
 
 -- a form with a length is not 0
-no-length : (form : ℕ) (b : Bool) → lengthOf form ≡ cond b 2 1 → form ≡ 0 → ⊥
+pub no-length : (form : ℕ) (b : Bool) → lengthOf form ≡ cond b 2 1 → form ≡ 0 → ⊥
 no-length form true e z = let y : ⊥ = omega arith in y
 no-length form false e z = let y : ⊥ = omega arith in y
 
-single : (b : Bool) → (b ≡ true → ⊥) → b ≡ false
+pub single : (b : Bool) → (b ≡ true → ⊥) → b ≡ false
 single true f = absurd (f refl)
 single false f = refl
 
@@ -151,17 +148,6 @@ module _ (w v : ℕ) (h : w < 65536) (k : v < 65536) (l : Line) (s : Sound l) (p
       (λ t. rw (t, first-same, second-same t) refl)
       (λ t. rw (t, first-same) refl)
 
--- a printed instruction reads back to its words, with the fields that are not looked at as 0; what does not print is refused by 14 either way
-pub print-read : (w v : ℕ) → w < 65536 → v < 65536 → readLine (lineOf w v) ≡ cleared w v
-unfolding lineOf cleared
-print-read w v h k = of (boxOf w) refl
-  where
-    of : (o : Option Line) → boxOf w ≡ o → readLine (lineBy (boxOf w) (w + 65536 * v)) ≡ clearedBy (boxOf w) w v
-    of none e = rw e (nothing-read (w + 65536 * v) w v)
-    of (some l) e =
-        let s = claimed-sound w l e in
-        rw e (line-read l s (w + 65536 * v) (claimed-named w l e) ∙ read-back w v h k l s (claimed-claims w l e))
-
 -- ---- reading, then printing
 
 -- a number m that was read from the line t as an instruction of the box l
@@ -182,7 +168,7 @@ module _ (l : Line) (t : List ℕ) (m : ℕ) (e : boxNamed (before blank t) ≡ 
       rw (its-box, named-name (before blank t) l e, tail-alike (shapesOf l) blank (m % 65536 + 65536 * v) m a, came .prints) (cut blank t)
 
 module _ (l : Line) (t : List ℕ) (e : boxNamed (before blank t) ≡ some l) where
-  answered : (o : Parsed) → reads (Value (baseOf l)) (shapesOf l) (onward blank t) ≡ o → Prints (wordsFrom (covers (shapesOf l) Second) o) t
+  pub answered : (o : Parsed) → reads (Value (baseOf l)) (shapesOf l) (onward blank t) ≡ o → Prints (wordsFrom (covers (shapesOf l) Second) o) t
   unfolding wordsFrom
   answered Malformed r = tt
   answered Outside r = tt
@@ -190,15 +176,6 @@ module _ (l : Line) (t : List ℕ) (e : boxNamed (before blank t) ≡ some l) wh
       split (covers (shapesOf l) Second)
       (λ f. rw f (reprints l t m e r (m / 65536 % 65536) (alike-both (shapesOf l) m)))
       (λ f. rw f (λ v. reprints l t m e r v (alike-first (shapesOf l) m v f)))
-
--- words made from a line print as that line
-pub read-print : (t : List ℕ) → Prints (readLine t) t
-unfolding readLine readBy
-read-print t = of (boxNamed (before blank t)) refl
-  where
-    of : (o : Option Line) → boxNamed (before blank t) ≡ o → Prints (readBy (boxNamed (before blank t)) (onward blank t)) t
-    of none e = rw e tt
-    of (some l) e = rw e (answered l t e _ refl)
 
 -- ---- printing and the decoder
 
@@ -211,42 +188,3 @@ first-form c (l ∷ ls) = split (c l) (λ e. rw e refl) (λ e. rw e (first-form 
 pub form-of : (w : ℕ) → decodeOf w ≡ formFrom (boxOf w)
 unfolding decodeOf boxOf
 form-of w = first-form (claimsWord w) pages
-
--- a word prints exactly when it begins a legal instruction
-pub prints-legal : (w v : ℕ) → (lineOf w v ≡ [] → decodeOf w ≡ 0) × (decodeOf w ≡ 0 → lineOf w v ≡ [])
-unfolding lineOf lineBy formFrom
-prints-legal w v = of (boxOf w) refl
-  where
-    of : (o : Option Line) → boxOf w ≡ o → (lineBy (boxOf w) (w + 65536 * v) ≡ [] → decodeOf w ≡ 0) × (decodeOf w ≡ 0 → lineBy (boxOf w) (w + 65536 * v) ≡ [])
-    of none e = (λ z. form-of w ∙ rw e refl, λ z. rw e refl)
-    of (some l) e =
-        let s = claimed-sound w l e in (
-          λ z. absurd (no-bytes (bytesOf (l .name)) (tail blank (shapesOf l) (w + 65536 * v)) (s .some-name) (rw e at z)),
-          λ z. absurd (no-length (lineForm l) (covers (shapesOf l) Second) (s .long) (sym (form-of w ∙ rw e refl) ∙ z)),
-        )
-
--- the line of an instruction of one word is the same whatever its second word is
-pub one-word : (w v u : ℕ) → w < 65536 → (lengthOf (decodeOf w) ≡ 2 → ⊥) → lineOf w v ≡ lineOf w u
-unfolding lineOf lineBy formFrom
-one-word w v u h n = of (boxOf w) refl
-  where
-    of : (o : Option Line) → boxOf w ≡ o → lineBy (boxOf w) (w + 65536 * v) ≡ lineBy (boxOf w) (w + 65536 * u)
-    of none e = rw e refl
-    of (some l) e =
-        let s = claimed-sound w l e in
-        let m = w + 65536 * u in
-        let q : m % 65536 ≡ w = omega arith in
-        let f : covers (shapesOf l) Second ≡ false = single (covers (shapesOf l) Second) (λ t. n (ap lengthOf (form-of w ∙ rw e refl) ∙ s .long ∙ rw t refl)) in
-        let a : Alike (shapesOf l) (w + 65536 * v) m = rw q at (alike-first (shapesOf l) m v f) in
-        rw e (ap (λ x. bytesOf (l .name) ++ x) (tail-alike (shapesOf l) blank (w + 65536 * v) m a))
-
--- no line is longer than 17 bytes
-pub line-short : (w v : ℕ) → length (lineOf w v) ≤ 17
-unfolding lineOf lineBy
-line-short w v = of (boxOf w) refl
-  where
-    of : (o : Option Line) → boxOf w ≡ o → length (lineBy (boxOf w) (w + 65536 * v)) ≤ 17
-    of none e = rw e (omega arith)
-    of (some l) e =
-        let s = claimed-sound w l e in
-        rw e (simp length-append (omega (arith, s .room, tail-width (shapesOf l) blank (w + 65536 * v) (s .thin))))

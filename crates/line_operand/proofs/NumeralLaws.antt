@@ -1,12 +1,12 @@
 -- Numbers as bytes and back: what is printed reads as the number, and what reads as a number is printed so. Assumes nothing.
-use Prim.Native.Nat.{ℕ, suc, _+_, _*_, _-_, _/_, _%_, _≤_, _<_}
-use mathlib.Core.Path.{_≡_, refl, sym, ap, subst, _∙_}
-use mathlib.Core.Bool.{Bool, true, false, cond, not, _&&_, false≢true}
+use Prim.Native.Nat.{ℕ, _+_, _*_, _-_, _/_, _%_, _≤_, _<_}
+use mathlib.Core.Path.{_≡_, refl, sym, ap, _∙_}
+use mathlib.Core.Bool.{true, false, not, _&&_, false≢true}
 use mathlib.Core.List.{List, [], _∷_, _++_}
 use native.Mathlib.Omega.{arith}
 use lib.Dec.{eqb, leb, ltb, lit<}
 use lib.ListN.{length, getD, length-append}
-use borrow.Author.Tests.{not-true, eq-eqb, ne-eqb, lt-ltb, le-ltb, le-leb, eqb-true, eqb-false, leb-true, ltb-true, ltb-false}
+use borrow.Author.Tests.{not-true, eq-eqb, ne-eqb, lt-ltb, le-ltb, le-leb, eqb-true, leb-true, ltb-true, ltb-false}
 use Rattle.text.specs.Texts.{leading, decimal, digit, digitOf}
 use Rattle.line_operand.specs.Numerals.{digits, value, plain, numeral, before, onward, lacks}
 use Rattle.choice.proofs.TestLaws.{split, both}

@@ -1,23 +1,22 @@
 -- One operand there and back: what is spelt is read as the field, and what is read as a field is spelt so. Assumes nothing.
 use Prim.Native.Nat.{ℕ, _+_, _*_, _-_, _/_, _%_, _≤_, _<_}
 use mathlib.Core.Path.{_≡_, refl, sym, ap, _∙_}
-use mathlib.Core.Bool.{Bool, true, false, cond, not, _&&_, false≢true}
-use mathlib.Core.List.{List, [], _∷_, _++_}
+use mathlib.Core.Bool.{Bool, true, false, cond, _&&_, false≢true}
+use mathlib.Core.List.{List, [], _∷_}
 use native.Mathlib.Omega.{arith}
 use native.Mathlib.Nat.{zero-add}
-use lib.Dec.{eqb, leb, ltb, lit<, lit≤}
-use lib.ListN.{length, getD, drop}
-use borrow.Author.Tests.{eq-eqb, ne-eqb, lt-ltb, le-ltb, le-leb, eqb-true, eqb-false, leb-true, ltb-true, ltb-false}
-use Rattle.line_operand.specs.declared.Place.{Place}
+use lib.Dec.{eqb, leb, ltb, lit≤}
+use lib.ListN.{length}
+use borrow.Author.Tests.{ne-eqb, lt-ltb, le-ltb, le-leb, eqb-true, eqb-false, leb-true, ltb-true, ltb-false}
 use Rattle.line_operand.specs.declared.Kind.{Kind}
 use Rattle.line_operand.specs.declared.Kind.the-variants.{Register, Number, Label, Word, Index, Unread}
 use Rattle.line_operand.specs.declared.Parsed.{Parsed}
 use Rattle.line_operand.specs.declared.Parsed.the-variants.{Malformed, Outside, Value}
-use Rattle.text.specs.Texts.{decimal, digit, hex, digitOf, given, wordOf}
+use Rattle.text.specs.Texts.{decimal, hex, digitOf, given, wordOf}
 use Rattle.line_operand.specs.Numerals.{numeral, value, lacks}
 use Rattle.line_operand.specs.Operands.{spell, omitted, inside, ranged, marked, nonzero, negated, labelled, wordIn, worded, takenAs, joined}
 use Rattle.choice.proofs.TestLaws.{split, both}
-use Rattle.line_operand.proofs.NumeralLaws.{Spelt, spelt, respelt, digit-reads, digit-spells, digit-plain}
+use Rattle.line_operand.proofs.NumeralLaws.{spelt, respelt, digit-reads, digit-spells, digit-plain}
 
 -- the answers differ
 pub malformed-field : {A : Type 0} {f : ℕ} → Malformed ≡ Value f → A

@@ -1,8 +1,8 @@
 -- All operands there and back, by induction over their shapes. Assumes nothing.
 use Prim.Native.Nat.{ℕ, _+_, _*_, _-_, _/_, _%_, _≤_, _<_}
-use mathlib.Core.Path.{_≡_, refl, sym, ap, subst, _∙_}
-use mathlib.Core.Bool.{Bool, true, false, cond, not, _&&_, _||_, false≢true}
-use mathlib.Core.List.{List, [], _∷_, _++_, append-assoc}
+use mathlib.Core.Path.{_≡_, refl, sym, ap, _∙_}
+use mathlib.Core.Bool.{Bool, true, false, cond, not, _&&_, false≢true}
+use mathlib.Core.List.{List, [], _∷_, _++_}
 use native.Mathlib.Omega.{arith}
 use lib.Dec.{eqb, leb, ltb}
 use lib.ListN.{length, length-append}
@@ -15,10 +15,10 @@ use Rattle.line_operand.specs.declared.Shape.{Shape}
 use Rattle.line_operand.specs.declared.Parsed.{Parsed}
 use Rattle.line_operand.specs.declared.Parsed.the-variants.{Malformed, Outside, Value}
 use Rattle.text.specs.Texts.{hex}
-use Rattle.line_operand.specs.Numerals.{before, onward, lacks}
+use Rattle.line_operand.specs.Numerals.{before, onward}
 use Rattle.line_operand.specs.Shapes.{unitOf, endOf, countOf, fieldOf, meets, covers}
 use Rattle.line_operand.specs.Operands.{spell, omitted, piece, sepAfter, tail, takenAs, placed, taken, joined, hidden, optional, sumAfter, restAfter, finished, reads}
-use Rattle.choice.proofs.TestLaws.{split, both, neither, either}
+use Rattle.choice.proofs.TestLaws.{split, both, neither}
 use Rattle.line_operand.proofs.NumeralLaws.{Starts, cut, onward-starts, cut-plain, two-digits, three-digits}
 use Rattle.line_operand.proofs.PlaceLaws.{field-below, field-made, field-other, field-first, field-both, field-zero, Digit, field-within}
 use Rattle.line_operand.proofs.OperandLaws.{fits, malformed-field, field-field, reads-spelt, spells-read, spell-plain}

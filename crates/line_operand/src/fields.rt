@@ -7,7 +7,7 @@ use crate::Kind;
 use crate::Place;
 
 // The number at a place.
-pub fn field(p: Place, n: u64) -> u16
+pub(crate) fn field(p: Place, n: u64) -> u16
     ensures { λ r. ⌜ r ≡ fieldOf p n ⌝ }
 {
     match p {

@@ -1,20 +1,20 @@
 -- A line cut from a place on, digit after digit, and the next operand of a line. Assumes nothing.
-use Prim.Native.Nat.{ℕ, zero, suc, _+_, _*_, _-_, _≤_, _<_}
-use mathlib.Core.Path.{_≡_, refl, sym, ap, subst, _∙_}
+use Prim.Native.Nat.{ℕ, suc, _+_, _*_, _-_, _≤_, _<_}
+use mathlib.Core.Path.{_≡_, refl, sym, ap, _∙_}
 use mathlib.Core.Bool.{Bool, true, false, cond, _&&_}
 use mathlib.Core.List.{List, [], _∷_, _++_, append-assoc, append-nil}
 use native.Mathlib.Omega.{arith}
 use native.Mathlib.Numerals.{add-one}
-use lib.Dec.{eqb, leb, ltb}
+use lib.Dec.{leb, ltb}
 use lib.ListN.{length, getD, take, drop, length-drop}
 use lib.Seq.{take-suc, drop-cons, split-at, getD-drop, drop-length, take-length}
-use borrow.Author.Tests.{eq-eqb, ne-eqb, lt-ltb, le-ltb, le-leb, lt-leb, ltb-true, ltb-false}
+use borrow.Author.Tests.{eq-eqb, ne-eqb, le-ltb, le-leb, ltb-true, ltb-false}
 use Rattle.line_operand.specs.declared.Parsed.{Parsed}
-use Rattle.line_operand.specs.declared.Parsed.the-variants.{Malformed, Outside, Value}
+use Rattle.line_operand.specs.declared.Parsed.the-variants.{Malformed}
 use Rattle.line_operand.specs.Numerals.{digits, value, plain, numeral, before, onward}
 use Rattle.line_operand.specs.declared.Shape.{Shape}
 use Rattle.line_operand.specs.Operands.{inside, ranged, taken, joined, hidden, optional, sumAfter, restAfter}
-use Rattle.choice.proofs.TestLaws.{split, both}
+use Rattle.choice.proofs.TestLaws.{split}
 use Rattle.line_parse.specs.Scans.{capped, scanned, Cut}
 
 -- ---- a line cut from a place on

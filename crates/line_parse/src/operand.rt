@@ -24,18 +24,18 @@ fn marked(text: &[u8], low: u64, count: u64) -> Parsed
     Parsed::Malformed
 }
 
-// A field that is not 0.
+// The field of an index register, which is not 0.
 fn nonzero(o: Parsed) -> Parsed
     ensures { λ r. ⌜ (r ≡ nonzero o) × (amount r ≤ amount o) ⌝ }
 {
     match o {
         Parsed::Malformed => Parsed::Malformed,
         Parsed::Outside => Parsed::Outside,
-        Parsed::Value(f) => {
-            if f == 0 {
+        Parsed::Value(index) => {
+            if index == 0 {
                 return Parsed::Malformed;
             }
-            Parsed::Value(f)
+            Parsed::Value(index)
         }
     }
 }

@@ -1,3 +1,4 @@
--- The laws of requests and answers, and of the input read byte by byte; known requests.
+-- The laws of requests and answers, and of the input read byte by byte; wrong answers.
 pub mod RequestLaws
 pub mod SessionLaws
+pub mod Wrong

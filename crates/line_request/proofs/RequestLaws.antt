@@ -1,19 +1,15 @@
 -- Requests and answers: what a request is told by its bytes, and a printed line with its newline. Assumes nothing.
-use Prim.Native.Nat.{ℕ, _+_, _≤_, _<_}
+use Prim.Native.Nat.{ℕ, _≤_, _<_}
 use mathlib.Core.Path.{_≡_, refl, sym, ap, _∙_}
-use mathlib.Core.Bool.{Bool, true, false, cond, _&&_}
-use mathlib.Core.List.{List, [], _∷_, _++_}
+use mathlib.Core.List.{List, [], _∷_}
 use native.Mathlib.Omega.{arith}
-use lib.Dec.{eqb, ltb}
-use lib.ListN.{length, getD, drop}
-use borrow.Author.Tests.{eq-eqb, ne-eqb, lt-ltb, le-ltb}
-use Rattle.choice.specs.Select.{select}
-use Rattle.text.specs.Texts.{newline, blank, Wrote, Text}
+use lib.ListN.{length}
+use Rattle.text.specs.Texts.{newline, Wrote, Text}
 use Rattle.text.proofs.WroteLaws.{then, whole}
 use Rattle.line.specs.declared.Printed.{Printed}
 use Rattle.line.specs.declared.Printed.the-variants.{Length, Illegal}
 use Rattle.line.specs.Lines.{lineOf, printed, Shows}
-use Rattle.line.proofs.LineLaws.{line-short}
+use Rattle.line.proofs.RoundTrip.{line-short}
 use Rattle.line_request.specs.declared.Request.{Request}
 use Rattle.line_request.specs.declared.Request.the-variants.{Print, Read, Malformed}
 use Rattle.line_request.specs.Requests.{requestOf, refused, printText}

@@ -111,7 +111,7 @@ fn read_answer(line: &[u8], out: &mut [u8; 256]) -> usize
 }
 
 // The answer to a line of the input.
-pub fn answer(line: &[u8], number: u32, out: &mut [u8; 256]) -> usize
+pub(crate) fn answer(line: &[u8], number: u32, out: &mut [u8; 256]) -> usize
     ensures { λ r. ⌜ Text (now (out .entry)) (answerTo number (now (line .entry))) (now (out .exit)) r ⌝ }
 {
     let asked = request(line);

@@ -2,7 +2,7 @@
 use Prim.Native.Nat.{ℕ, _+_, _*_, _/_, _%_, _≤_, _<_}
 use mathlib.Core.Path.{_≡_, refl, sym, ap, _∙_}
 use mathlib.Core.Bool.{Bool, true, false, cond, not, _&&_, Bool·beq, false≢true}
-use mathlib.Core.List.{List, [], _∷_}
+use mathlib.Core.List.{List, []}
 use mathlib.Core.Option.{Option, none, some}
 use native.Mathlib.Omega.{arith}
 use lib.Dec.{eqb, leb, ltb}
@@ -11,7 +11,7 @@ use borrow.Author.Tests.{eq-eqb, eqb-true, leb-true, le-leb, ltb-true, not-true}
 use Rattle.choice.specs.Search.{found}
 use Rattle.choice.specs.Table.{among}
 use Rattle.choice.proofs.Rows.{allOf}
-use Rattle.choice.proofs.TestLaws.{split, both}
+use Rattle.choice.proofs.TestLaws.{both}
 use Rattle.choice.proofs.SearchLaws.{pairsOf, found-passes, found-all, found-only}
 use Rattle.text.specs.Texts.{bytesOf}
 use Rattle.decode.specs.Forms.{lengthOf}
@@ -21,7 +21,6 @@ use Rattle.decode.specs.Decode.{within, fits, claims, lineForm}
 use Rattle.decode.proofs.PageLaws.{disjoint, disjoint-claims, pages-disjoint}
 use Rattle.line_operand.specs.declared.Place.{Place}
 use Rattle.line_operand.specs.declared.Place.the-variants.{Lower, Upper, Base, Top, Second}
-use Rattle.line_operand.specs.declared.Shape.{Shape}
 use Rattle.line_operand.specs.Numerals.{lacks}
 use Rattle.line_operand.specs.Shapes.{fieldOf, meets, covers, shapes, shapeOf}
 use Rattle.line_operand.specs.Operands.{hidden, optional}

@@ -1,16 +1,18 @@
 -- The table's entries: each is that of the box which claims its first word, and every box has one; what an entry tells of its box. Assumes nothing.
 use Prim.Native.Nat.{ℕ, zero, suc, _+_, _*_, _-_, _/_, _%_, _≤_, _<_}
-use mathlib.Core.Path.{_≡_, refl, sym, ap, subst, _∙_}
-use mathlib.Core.Bool.{Bool, true, false, cond, not, _&&_, false≢true}
+use mathlib.Core.Path.{_≡_, refl, sym, ap, _∙_}
+use mathlib.Core.Bool.{Bool, true, false, cond, not, _&&_}
 use mathlib.Core.List.{List, [], _∷_, _++_, map}
 use mathlib.Core.Option.{Option, none, some}
 use native.Mathlib.Omega.{arith}
-use lib.Dec.{eqb, ltb, lit<}
-use lib.ListN.{length, getD}
+use lib.Dec.{eqb, ltb}
+use lib.ListN.{length, getD, replicate}
 use borrow.Author.Tests.{eq-eqb, ne-eqb, eqb-true, eqb-false, lt-ltb, le-ltb, ltb-true, ltb-false}
+use Rattle.choice.specs.Select.{select}
 use Rattle.choice.specs.Search.{found}
+use Rattle.choice.proofs.TableLaws.{entry}
 use Rattle.choice.proofs.Rows.{allOf}
-use Rattle.choice.proofs.TestLaws.{split, both, all-but}
+use Rattle.choice.proofs.TestLaws.{split, both, passes, all-but}
 use Rattle.choice.proofs.SearchLaws.{found-all}
 use Rattle.text.specs.Texts.{bytesOf}
 use Rattle.decode.specs.Pages.{Line, pages}
@@ -18,11 +20,11 @@ use Rattle.decode.specs.Decode.{claims}
 use Rattle.line_operand.specs.declared.Place.the-variants.{Second}
 use Rattle.line_operand.specs.declared.Parsed.{Parsed}
 use Rattle.line_operand.specs.Numerals.{lacks}
-use Rattle.line_operand.specs.Shapes.{fieldOf, meets, covers, shapes, shapeOf}
-use Rattle.line_operand.specs.Operands.{omitted, piece, sepAfter, tail, hidden, optional, sumAfter, restAfter, finished, reads}
-use Rattle.line_table.specs.Boxes.{sameText, named, claimsWord, boxOf, boxNamed, baseOf, shapesOf}
-use Rattle.line_table.specs.Entries.{keyOf, codeOf, entryIn, entryOf, letter, nameIn, operandsIn, slotsIn, listOf, baseIn, wordAt, Passed}
-use Rattle.line_table.proofs.NameLaws.{same-true, same-refl, name-short, name-low, renamed}
+use Rattle.line_operand.specs.Shapes.{meets, covers, shapes, shapeOf}
+use Rattle.line_operand.specs.Operands.{omitted, piece, sepAfter, tail, hidden, optional, sumAfter, restAfter, reads}
+use Rattle.line_table.specs.Boxes.{sameText, named, claimsWord, boxOf, boxNamed, baseOf}
+use Rattle.line_table.specs.Entries.{keyOf, codeOf, entryIn, entryOf, letter, nameIn, operandsIn, slotsIn, listOf, baseIn, wordAt, entriesFrom, rowAt, Passed}
+use Rattle.line_table.proofs.NameLaws.{same-true, name-short, name-low, renamed}
 use Rattle.line_table.proofs.BoxLaws.{named-name, claimed-named, named-claimed}
 
 -- ---- tests of a box's entry
@@ -164,17 +166,67 @@ module _ (w : ℕ) (h : w < 65536) where
       at-opcode (w / 256) (omega arith) a b c
       ∙ sym (by-opcode w h ∙ rw (ne-eqb (w / 256 / 4) 16 a, ne-eqb (w / 256) 0x4A b, ne-eqb (w / 256) 0xFF c) refl)
 
+-- ---- rows
+
+pub row-entry : (r c : ℕ) → r < 18 → c < 16 → getD (rowAt r) c 0 ≡ entryOf (wordAt (16 * r + c))
+unfolding rowAt entriesFrom
+row-entry r c h i = rw (lt-ltb r 18 h) (entry (λ k. entryOf (wordAt k)) 16 (16 * r) c i)
+
+pub place-entry : (i : ℕ) → i < 288 → getD (rowAt (i / 16)) (i % 16) 0 ≡ entryOf (wordAt i)
+place-entry i h =
+    let e : 16 * (i / 16) + i % 16 ≡ i = omega arith in
+    row-entry (i / 16) (i % 16) (omega arith) (omega arith) ∙ ap (λ k. entryOf (wordAt k)) e
+
+-- the rows by their numbers, and that any other is behind them
+abbrev pub numbers : List (ℕ × ℕ)
+numbers =
+    (0, 1) ∷ (1, 1) ∷ (2, 1) ∷ (3, 1) ∷ (4, 1) ∷ (5, 1) ∷ (6, 1) ∷ (7, 1) ∷ (8, 1) ∷ (9, 1) ∷ (10, 1) ∷ (11, 1) ∷ (12, 1) ∷ (13, 1) ∷ (14, 1) ∷ (15, 1) ∷ (16, 1) ∷ (17, 1) ∷ []
+
+pub no-row : (r : ℕ) → select r numbers 0 ≡ 0 → rowAt r ≡ replicate 16 0
+unfolding rowAt
+no-row r e =
+    split (ltb r 18)
+    (λ t.
+    let y : select r numbers 0 ≡ 1 = eqb-true _ _ (passes (λ k. eqb (select k numbers 0) 1) 18 refl r (ltb-true r 18 t)) in
+    let x : _≡_ {A = ℕ} 0 1 = sym e ∙ y in
+    let z : ⊥ = omega arith in
+    absurd z)
+    (λ t. rw t refl)
+
 -- ---- the entry of a name
+
+-- the entries of a row one by one
+pub row-none : (t : List ℕ) (key k : ℕ) → k < 0 → getD t k 0 % 4294967296 ≡ key → ⊥
+row-none t key k h = let z : ⊥ = omega arith in absurd z
+
+pub row-on : (t : List ℕ) (key c : ℕ) → ((k : ℕ) → k < c → getD t k 0 % 4294967296 ≡ key → ⊥) → (getD t c 0 % 4294967296 ≡ key → ⊥)
+    → (k : ℕ) → k < c + 1 → getD t k 0 % 4294967296 ≡ key → ⊥
+row-on t key c p n k h = split (eqb k c) (λ e. rw (eqb-true k c e) n) (λ e. p k (omega (arith, eqb-false k c e)))
 
 pub passed-none : (key from : ℕ) → Passed key from from
 passed-none key from k l h = let z : ⊥ = omega arith in absurd z
 
-pub passed-on : (key from i : ℕ) → Passed key from i → (entryOf (wordAt i) % 4294967296 ≡ key → ⊥) → Passed key from (i + 1)
-passed-on key from i p n k l h = split (eqb k i) (λ e. rw (eqb-true k i e) n) (λ e. p k l (omega (arith, eqb-false k i e)))
+-- a row behind them
+pub passed-row : (key from r : ℕ) → r < 18 → Passed key from (16 * r) → ((c : ℕ) → c < 16 → getD (rowAt r) c 0 % 4294967296 ≡ key → ⊥) → Passed key from (16 * (r + 1))
+passed-row key from r i p n k l h =
+    split (ltb k (16 * r))
+    (λ e. p k l (ltb-true k (16 * r) e))
+    (λ e.
+    let m = ltb-false k (16 * r) e in
+    let d : 16 * r + (k - 16 * r) ≡ k = omega arith in
+    λ q. n (k - 16 * r) (omega arith) (ap (λ x. x % 4294967296) (row-entry r (k - 16 * r) i (omega arith) ∙ ap (λ x. entryOf (wordAt x)) d) ∙ q))
 
 -- a search that goes round has passed all
-pub passed-round : (key start : ℕ) → Passed key start 289 → Passed key 0 start → Passed key 0 289
-passed-round key start p q k l h = split (ltb k start) (λ e. q k l (ltb-true k start e)) (λ e. p k (ltb-false k start e) h)
+pub passed-round : (key start : ℕ) → Passed key (16 * start) 288 → Passed key 0 (16 * start) → Passed key 0 288
+passed-round key start p q k l h = split (ltb k (16 * start)) (λ e. q k l (ltb-true k (16 * start) e)) (λ e. p k (ltb-false k (16 * start) e) h)
+
+-- BPT's entry, behind the rows
+abbrev bpt : ℕ
+bpt = 0xFFFF00042505420
+
+pub bpt-entry : entryOf (wordAt 288) ≡ bpt
+unfolding entryOf boxOf wordAt pages entryIn keyOf codeOf bytesOf
+bpt-entry = refl
 
 module _ (t : List ℕ) where
   pub too-long : 4 < length t → 0 ≡ entryIn (boxNamed t)
@@ -189,16 +241,19 @@ module _ (t : List ℕ) where
           absurd z
 
   -- no entry has the name
-  pub not-named : Passed (keyOf t) 0 289 → 0 ≡ entryIn (boxNamed t)
+  pub not-named : Passed (keyOf t) 0 288 → (keyOf t ≡ bpt % 4294967296 → ⊥) → 0 ≡ entryIn (boxNamed t)
   unfolding entryIn entryOf
-  not-named p = of (boxNamed t) refl
+  not-named p n = of (boxNamed t) refl
     where
       of : (o : Option Line) → boxNamed t ≡ o → 0 ≡ entryIn (boxNamed t)
       of none e = rw e refl
       of (some l) e =
           let k = named-kept t l e in
           let b : entryOf (wordAt (k .place .0)) ≡ entryIn (some l) = ap entryOf (k .place .2) ∙ ap entryIn (named-claimed t l (baseOf l) e (k .own)) in
-          absurd (p (k .place .0) (omega arith) (k .place .1) (ap (λ n. n % 4294967296) b ∙ k .key-is ∙ ap keyOf (named-name t l e)))
+          let q : entryOf (wordAt (k .place .0)) % 4294967296 ≡ keyOf t = ap (λ x. x % 4294967296) b ∙ k .key-is ∙ ap keyOf (named-name t l e) in
+          split (eqb (k .place .0) 288)
+          (λ z. absurd (n (sym q ∙ ap (λ x. x % 4294967296) (ap (λ x. entryOf (wordAt x)) (eqb-true _ _ z) ∙ bpt-entry))))
+          (λ z. absurd (p (k .place .0) (omega arith) (omega (arith, k .place .1, eqb-false (k .place .0) 288 z)) q))
 
   -- an entry with the number of the name is that of the box with the name
   module _ (small : (i : ℕ) → getD t i 0 < 256) (whole : lacks 32 t ≡ true) (short : length t ≤ 4) (k : ℕ) (same : entryOf (wordAt k) % 4294967296 ≡ keyOf t) where

@@ -2,11 +2,11 @@
 -- numbers in bits 32 to 43; its first word in bits 44 to 59, bit 0 the least significant. 0 is no box. Assumes nothing.
 use Prim.Native.Nat.{ℕ, _+_, _*_, _-_, _/_, _%_, _≤_, _<_}
 use mathlib.Core.Bool.{cond}
-use mathlib.Core.List.{List, [], _∷_, _++_, map}
+use mathlib.Core.List.{List, [], _∷_, _++_}
 use mathlib.Core.Option.{Option, none, some}
 use mathlib.Core.Path.{_≡_}
 use lib.Dec.{eqb, ltb}
-use lib.ListN.{getD}
+use lib.ListN.{getD, replicate}
 use Rattle.choice.specs.Table.{tableOf}
 use Rattle.text.specs.Texts.{bytesOf}
 use Rattle.decode.specs.Pages.{Line}
@@ -62,15 +62,23 @@ baseIn e = e / 17592186044416 % 65536
 unfoldable pub wordAt : ℕ → ℕ
 wordAt k = cond (ltb k 256) (256 * k) (cond (ltb k 272) (16384 + 16 * (k - 256)) (cond (ltb k 288) (18944 + (k - 272)) 65535))
 
--- the table: the entry of the box that claims each place's first word
-unfoldable pub entries : List ℕ
-entries = tableOf (λ k. entryOf (wordAt k)) 0 289
+-- the places below 288 in rows of sixteen: the entry of the box that claims each place's first word
+unfoldable pub entriesFrom : ℕ → List ℕ
+entriesFrom r = tableOf (λ k. entryOf (wordAt k)) (16 * r) 16
+
+unfoldable pub rowAt : ℕ → List ℕ
+rowAt r = cond (ltb r 18) (entriesFrom r) (replicate 16 0)
 
 -- none of the entries from one place on, and before another, has the name of the number `key`
 abbrev pub Passed : ℕ → ℕ → ℕ → Type 0
 Passed key from to = (k : ℕ) → from ≤ k → k < to → entryOf (wordAt k) % 4294967296 ≡ key → ⊥
 
--- what a search ensures: a place with the name, or 289 and no such place
+-- what a search in a row t ensures: a place with the name, or 16 and no such place
+pub record InRow (t : List ℕ) (key r : ℕ) : Type 0 where
+  pub here : r < 16 → getD t r 0 % 4294967296 ≡ key
+  pub none-there : 16 ≤ r → (c : ℕ) → c < 16 → getD t c 0 % 4294967296 ≡ key → ⊥
+
+-- and in all rows
 pub record Sought (key from to r : ℕ) : Type 0 where
-  pub here : r < 289 → entryOf (wordAt r) % 4294967296 ≡ key
-  pub none-there : 289 ≤ r → Passed key from to
+  pub here : r < 288 → entryOf (wordAt r) % 4294967296 ≡ key
+  pub none-there : 288 ≤ r → Passed key from to

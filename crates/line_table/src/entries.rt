@@ -1,6 +1,6 @@
-// The entries of section 5's boxes, by the opcode; then by the extensions under 40 to 43, by those under 4A, and that of FFFF. An entry is a first word with its
-// fields 0, the operands from the last to the first by their numbers, and the four bytes of the mnemonic, filled up with blanks; 0 is no box.
-pub const ENTRIES: [u64; 289] = [
+// The entries of section 5's boxes in rows of sixteen, as the opcodes stand: those of each first digit, of the extensions under 40 to 43, and of those under 4A; and that of
+// FFFF. An entry is a first word with its fields 0, the operands from the last to the first by their numbers, and the four bytes of the mnemonic, filled up with blanks; 0 is no box.
+pub const ROW_0: [u64; 16] = [
     0x0000_093_4C422020, // LB BR,DSPL
     0x0000_093_4C422020, // LB BR,DSPL
     0x0000_093_4C422020, // LB BR,DSPL
@@ -17,6 +17,8 @@ pub const ENTRIES: [u64; 289] = [
     0x0C00_093_44535442, // DSTB BR,DSPL
     0x0C00_093_44535442, // DSTB BR,DSPL
     0x0C00_093_44535442, // DSTB BR,DSPL
+];
+pub const ROW_1: [u64; 16] = [
     0x1000_093_41422020, // AB BR,DSPL
     0x1000_093_41422020, // AB BR,DSPL
     0x1000_093_41422020, // AB BR,DSPL
@@ -33,6 +35,8 @@ pub const ENTRIES: [u64; 289] = [
     0x1C00_093_44422020, // DB BR,DSPL
     0x1C00_093_44422020, // DB BR,DSPL
     0x1C00_093_44422020, // DB BR,DSPL
+];
+pub const ROW_2: [u64; 16] = [
     0x2000_093_46414220, // FAB BR,DSPL
     0x2000_093_46414220, // FAB BR,DSPL
     0x2000_093_46414220, // FAB BR,DSPL
@@ -49,6 +53,8 @@ pub const ENTRIES: [u64; 289] = [
     0x2C00_093_46444220, // FDB BR,DSPL
     0x2C00_093_46444220, // FDB BR,DSPL
     0x2C00_093_46444220, // FDB BR,DSPL
+];
+pub const ROW_3: [u64; 16] = [
     0x3000_093_4F524220, // ORB BR,DSPL
     0x3000_093_4F524220, // ORB BR,DSPL
     0x3000_093_4F524220, // ORB BR,DSPL
@@ -65,6 +71,8 @@ pub const ENTRIES: [u64; 289] = [
     0x3C00_093_46434220, // FCB BR,DSPL
     0x3C00_093_46434220, // FCB BR,DSPL
     0x3C00_093_46434220, // FCB BR,DSPL
+];
+pub const ROW_4: [u64; 16] = [
     0x4000_043_4C425820, // LBX BR,RX
     0x4000_043_4C425820, // LBX BR,RX
     0x4000_043_4C425820, // LBX BR,RX
@@ -81,6 +89,8 @@ pub const ENTRIES: [u64; 289] = [
     0, // 4D00
     0, // 4E00
     0, // 4F00
+];
+pub const ROW_5: [u64; 16] = [
     0x5000_4B5_53422020, // SB N,ADDR,RX
     0x5100_025_53425220, // SBR N,RB
     0x5200_4B5_53424920, // SBI N,ADDR,RX
@@ -97,6 +107,8 @@ pub const ENTRIES: [u64; 289] = [
     0, // 5D00
     0x5E00_021_54564252, // TVBR RA,RB
     0, // 5F00
+];
+pub const ROW_6: [u64; 16] = [
     0x6000_062_534C4C20, // SLL RB,N1
     0x6100_062_53524C20, // SRL RB,N1
     0x6200_062_53524120, // SRA RB,N1
@@ -113,6 +125,8 @@ pub const ENTRIES: [u64; 289] = [
     0x6D00_021_44534C52, // DSLR RA,RB
     0x6E00_021_44534152, // DSAR RA,RB
     0x6F00_021_44534352, // DSCR RA,RB
+];
+pub const ROW_7: [u64; 16] = [
     0x7000_4B5_4A432020, // JC C,LABEL,RX
     0x7100_4B5_4A434920, // JCI C,ADDR,RX
     0x7200_4B1_4A532020, // JS RA,LABEL,RX
@@ -129,6 +143,8 @@ pub const ENTRIES: [u64; 289] = [
     0x7D00_4BC_4C535420, // LST Z8,ADDR,RX
     0x7E00_4B1_534A5320, // SJS RA,LABEL,RX
     0x7F00_0D1_55525320, // URS RA,Z12
+];
+pub const ROW_8: [u64; 16] = [
     0x8000_4B1_4C202020, // L RA,ADDR,RX
     0x8100_021_4C522020, // LR RA,RB
     0x8200_081_4C495350, // LISP RA,NI
@@ -145,6 +161,8 @@ pub const ENTRIES: [u64; 289] = [
     0x8D00_4B1_4C554249, // LUBI RA,ADDR,RX
     0x8E00_4B1_4C4C4249, // LLBI RA,ADDR,RX
     0x8F00_021_504F504D, // POPM RA,RB
+];
+pub const ROW_9: [u64; 16] = [
     0x9000_4B1_53542020, // ST RA,ADDR,RX
     0x9100_4B5_53544320, // STC N,ADDR,RX
     0x9200_4B5_53544349, // STCI N,ADDR,RX
@@ -161,6 +179,8 @@ pub const ENTRIES: [u64; 289] = [
     0x9D00_4B1_53554249, // SUBI RA,ADDR,RX
     0x9E00_4B1_534C4249, // SLBI RA,ADDR,RX
     0x9F00_021_5053484D, // PSHM RA,RB
+];
+pub const ROW_10: [u64; 16] = [
     0xA000_4B1_41202020, // A RA,ADDR,RX
     0xA100_021_41522020, // AR RA,RB
     0xA200_081_41495350, // AISP RA,NI
@@ -177,6 +197,8 @@ pub const ENTRIES: [u64; 289] = [
     0, // AD00
     0, // AE00
     0, // AF00
+];
+pub const ROW_11: [u64; 16] = [
     0xB000_4B1_53202020, // S RA,ADDR,RX
     0xB100_021_53522020, // SR RA,RB
     0xB200_081_53495350, // SISP RA,NI
@@ -193,6 +215,8 @@ pub const ENTRIES: [u64; 289] = [
     0, // BD00
     0, // BE00
     0, // BF00
+];
+pub const ROW_12: [u64; 16] = [
     0xC000_4B1_4D532020, // MS RA,ADDR,RX
     0xC100_021_4D535220, // MSR RA,RB
     0xC200_081_4D495350, // MISP RA,NI
@@ -209,6 +233,8 @@ pub const ENTRIES: [u64; 289] = [
     0, // CD00
     0, // CE00
     0, // CF00
+];
+pub const ROW_13: [u64; 16] = [
     0xD000_4B1_44562020, // DV RA,ADDR,RX
     0xD100_021_44565220, // DVR RA,RB
     0xD200_081_44495350, // DISP RA,NI
@@ -225,6 +251,8 @@ pub const ENTRIES: [u64; 289] = [
     0, // DD00
     0, // DE00
     0, // DF00
+];
+pub const ROW_14: [u64; 16] = [
     0xE000_4B1_4F522020, // OR RA,ADDR,RX
     0xE100_021_4F525220, // ORR RA,RB
     0xE200_4B1_414E4420, // AND RA,ADDR,RX
@@ -241,6 +269,8 @@ pub const ENTRIES: [u64; 289] = [
     0xED00_021_58575220, // XWR RA,RB
     0, // EE00
     0, // EF00
+];
+pub const ROW_15: [u64; 16] = [
     0xF000_4B1_43202020, // C RA,ADDR,RX
     0xF100_021_43522020, // CR RA,RB
     0xF200_081_43495350, // CISP RA,NI
@@ -257,6 +287,8 @@ pub const ENTRIES: [u64; 289] = [
     0, // FD00
     0, // FE00
     0xFF00_000_4E4F5020, // NOP
+];
+pub const ROW_16: [u64; 16] = [
     0x4000_043_4C425820, // LBX BR,RX
     0x4010_043_444C4258, // DLBX BR,RX
     0x4020_043_53544258, // STBX BR,RX
@@ -273,6 +305,8 @@ pub const ENTRIES: [u64; 289] = [
     0x40D0_043_46434258, // FCBX BR,RX
     0x40E0_043_414E4458, // ANDX BR,RX
     0x40F0_043_4F524258, // ORBX BR,RX
+];
+pub const ROW_17: [u64; 16] = [
     0, // 4A00
     0x4A01_0B1_41494D20, // AIM RA,DATA
     0x4A02_0B1_53494D20, // SIM RA,DATA
@@ -289,5 +323,5 @@ pub const ENTRIES: [u64; 289] = [
     0, // 4A0D
     0, // 4A0E
     0, // 4A0F
-    0xFFFF_000_42505420, // BPT
 ];
+pub const BPT: u64 = 0xFFFF_000_42505420;

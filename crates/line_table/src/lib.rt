@@ -1,15 +1,15 @@
-// The mnemonics of section 5 as one constant table of entries, found by a first word or by a name; and the parts of an entry.
+// The mnemonics of section 5 as one constant table of entries in rows, found by a first word or by a name; and the parts of an entry.
 pub mod entry;
 pub mod name;
 mod entries;
 
 ghost use mathlib.Core.Path.{_≡_};
 ghost use mathlib.Core.Bool.{true};
-ghost use Prim.Native.Nat.{_<_, _≤_};
+ghost use Prim.Native.Nat.{_*_, _<_, _≤_};
 ghost use lib.ListN.{getD};
 ghost use Rattle.line_operand.specs.Numerals.{lacks};
 ghost use Rattle.line_table.specs.Boxes.{boxNamed};
-ghost use Rattle.line_table.specs.Entries.{keyOf, entryIn, entryOf, wordAt, entries, Sought};
+ghost use Rattle.line_table.specs.Entries.{keyOf, entryIn, entryOf, wordAt, rowAt, InRow, Sought};
 use line_operand::Shape;
 
 // The shapes of three operands.
@@ -19,31 +19,52 @@ pub struct Slots {
     pub third: Shape,
 }
 
-// The table.
-fn table() -> [u64; 289]
-    ensures { λ r. ⌜ r ≡ entries ⌝ }
+// A row of the table; no entries behind the last.
+fn row(r: usize) -> [u64; 16]
+    ensures { λ t. ⌜ t ≡ rowAt r ⌝ }
 {
-    entries::ENTRIES
+    match r {
+        0 => entries::ROW_0,
+        1 => entries::ROW_1,
+        2 => entries::ROW_2,
+        3 => entries::ROW_3,
+        4 => entries::ROW_4,
+        5 => entries::ROW_5,
+        6 => entries::ROW_6,
+        7 => entries::ROW_7,
+        8 => entries::ROW_8,
+        9 => entries::ROW_9,
+        10 => entries::ROW_10,
+        11 => entries::ROW_11,
+        12 => entries::ROW_12,
+        13 => entries::ROW_13,
+        14 => entries::ROW_14,
+        15 => entries::ROW_15,
+        16 => entries::ROW_16,
+        17 => entries::ROW_17,
+        _ => [0; 16],
+    }
 }
 
-// The entry at a place of the table. Every caller has a place below 289.
-fn entry_at(t: &[u64; 289], i: usize) -> u64
-    requires { ⌜ (now t ≡ entries) × (i < 289) ⌝ }
+// The entry at a place of the rows. Every caller has a place below 288.
+fn entry_at(i: usize) -> u64
+    requires { ⌜ i < 288 ⌝ }
     ensures { λ r. ⌜ r ≡ entryOf (wordAt i) ⌝ }
 {
-    t[i]
+    let t = row(i / 16);
+    t[i % 16]
 }
 
 // The entry of a word under FF.
-fn special(t: &[u64; 289], w: u16) -> u64
-    requires { ⌜ (now t ≡ entries) × (65280 ≤ w) ⌝ }
+fn special(w: u16) -> u64
+    requires { ⌜ 65280 ≤ w ⌝ }
     ensures { λ r. ⌜ r ≡ entryOf w ⌝ }
 {
     if w == 0xFF00 {
-        return entry_at(t, 255);
+        return entry_at(255);
     }
     if w == 0xFFFF {
-        return entry_at(t, 288);
+        return entries::BPT;
     }
     0
 }
@@ -52,18 +73,17 @@ fn special(t: &[u64; 289], w: u16) -> u64
 pub fn by_word(w: u16) -> u64
     ensures { λ r. ⌜ r ≡ entryOf w ⌝ }
 {
-    let t = table();
     let op = w / 256;
     if op / 4 == 16 {
-        return entry_at(&t, (256 + w / 16 % 16) as usize);
+        return entry_at((256 + w / 16 % 16) as usize);
     }
     if op == 0x4A {
-        return entry_at(&t, (272 + w % 16) as usize);
+        return entry_at((272 + w % 16) as usize);
     }
     if op == 0xFF {
-        return special(&t, w);
+        return special(w);
     }
-    entry_at(&t, op as usize)
+    entry_at(op as usize)
 }
 
 // A byte of a text, and a blank after its end.
@@ -83,46 +103,62 @@ fn key(text: &[u8]) -> u64
     byte(text, 0) * 16777216 + byte(text, 1) * 65536 + byte(text, 2) * 256 + byte(text, 3)
 }
 
-// Where a search for a name starts, by its first letter: a place near most mnemonics with that letter. Any place would do, since the search goes round.
-fn first_place(letter: u64) -> usize
-    ensures { λ r. ⌜ r < 289 ⌝ }
+// The row where a search for a name starts, by its first letter: one near most mnemonics with that letter. Any row would do, since the search goes round.
+fn first_row(letter: u64) -> usize
+    ensures { λ r. ⌜ r < 18 ⌝ }
 {
     match letter {
-        65 => 160,
-        66 => 116,
-        67 => 240,
-        68 => 101,
-        69 => 138,
-        70 => 168,
-        73 => 163,
-        74 => 112,
-        76 => 124,
-        77 => 192,
-        78 => 180,
-        79 => 224,
-        80 => 143,
-        82 => 83,
-        83 => 80,
-        84 => 86,
-        85 => 127,
-        88 => 228,
+        65 => 10,
+        66 => 7,
+        67 => 15,
+        68 => 6,
+        69 => 8,
+        70 => 10,
+        73 => 10,
+        74 => 7,
+        76 => 7,
+        77 => 12,
+        78 => 11,
+        79 => 14,
+        80 => 8,
+        82 => 5,
+        83 => 5,
+        84 => 5,
+        85 => 7,
+        88 => 14,
         _ => 0,
     }
 }
 
-// The first place from one on, and before another, whose entry has the name of the number `key`; 289 where there is none.
-fn search(t: &[u64; 289], from: usize, to: usize, key: u64) -> usize
-    requires { ⌜ (now t ≡ entries) × (from ≤ to) × (to ≤ 289) ⌝ }
-    ensures { λ r. ⌜ Sought key from to r ⌝ }
+// The place in a row of the first entry whose name has the number `key`; 16 where there is none.
+fn search_row(t: &[u64; 16], key: u64) -> usize
+    ensures { λ r. ⌜ InRow (now (t .entry)) key r ⌝ }
 {
-    let mut i = from;
-    while i < to {
-        if entry_at(t, i) % 4294967296 == key {
-            return i;
+    let mut c: usize = 0;
+    while c < 16 {
+        if t[c] % 4294967296 == key {
+            return c;
         }
-        i += 1;
+        c += 1;
     }
-    289
+    16
+}
+
+// The first place in the rows from one on, and before another, whose entry has the name of the number `key`; 288 where there is none.
+fn search(from: usize, to: usize, key: u64) -> usize
+    requires { ⌜ (from ≤ to) × (to ≤ 18) ⌝ }
+    ensures { λ r. ⌜ Sought key (16 * from) (16 * to) r ⌝ }
+{
+    let mut r = from;
+    while r < to {
+        let t = row(r);
+        let c = search_row(&t, key);
+        if c < 16 {
+            return 16 * r + c;
+        }
+        r += 1;
+    }
+    288
 }
 
 // The entry of the box with a name; 0 where there is none. Every caller has cut the name at the first blank.
@@ -133,16 +169,18 @@ pub fn by_name(text: &[u8]) -> u64
     if 4 < text.len() {
         return 0;
     }
-    let t = table();
     let k = key(text);
-    let start = first_place(k / 16777216);
-    let i = search(&t, start, 289, k);
-    if i < 289 {
-        return entry_at(&t, i);
+    let start = first_row(k / 16777216);
+    let i = search(start, 18, k);
+    if i < 288 {
+        return entry_at(i);
     }
-    let i = search(&t, 0, start, k);
-    if i < 289 {
-        return entry_at(&t, i);
+    let i = search(0, start, k);
+    if i < 288 {
+        return entry_at(i);
+    }
+    if k == entries::BPT % 4294967296 {
+        return entries::BPT;
     }
     0
 }

@@ -1,4 +1,5 @@
-//! The packed state's layout, as `twin1750.h` names it: its words by their numbers, the marks by the weights of their bits.
+//! The packed state's layout, as `twin1750.h` names it: its words by their numbers, the marks by the weights of their bits; and
+//! the size of the buffer that a mnemonic line is printed into.
 //!
 //! R0 to R15 are words 0 to 15. Every word that has no name here is not looked at, and is 0 after a call that is done; the
 //! same holds for the bits of [`MARKS`] that are no marks. Words 24 to 30 are kept for parts of a later version.
@@ -7,6 +8,8 @@
 pub const VERSION: u32 = 3;
 /// The number of words of a packed state.
 pub const STATE_WORDS: usize = 256;
+/// The number of bytes that a mnemonic line is printed into; the longest line has 17.
+pub const LINE_BYTES: usize = 256;
 
 /// The instruction counter.
 pub const IC: usize = 16;

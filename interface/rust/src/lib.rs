@@ -13,17 +13,28 @@
 //! assert_eq!((state.regs[3], state.ic, state.counter), (16, 1, 1000));
 //! # Ok::<(), twin1750::Refusal>(())
 //! ```
+//!
+//! [`print`](fn@print) and [`read`] go between the words of an instruction and its mnemonic line:
+//!
+//! ```
+//! use twin1750::{print, read, Words};
+//! assert_eq!(print(0x823F, 0)?.as_str(), "LISP R3,16");
+//! assert_eq!(read(b"LISP R3,16")?, Words::One(0x823F));
+//! # Ok::<(), twin1750::Refusal>(())
+//! ```
 
 #![deny(unsafe_code)]
 #![deny(missing_docs)]
 
 pub mod layout;
 mod library;
+mod lines;
 mod refusal;
 mod state;
 
-pub use layout::{STATE_WORDS, VERSION};
-pub use library::{load_words, run_words};
+pub use layout::{LINE_BYTES, STATE_WORDS, VERSION};
+pub use library::{load_words, print_into, read_into, run_words};
+pub use lines::{print, read, Line, Words};
 pub use refusal::Refusal;
 pub use state::State;
 

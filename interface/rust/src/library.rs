@@ -1,5 +1,6 @@
-//! The two functions of the static library, and safe functions over them on the packed state.
+//! The four functions of the static library, and safe functions over them: on the packed state, and on the buffers of lines.
 
+use crate::layout::LINE_BYTES;
 use crate::Refusal;
 
 extern "C" {
@@ -27,6 +28,10 @@ extern "C" {
         ports: *mut u16,
         ports_len: usize,
     ) -> u32;
+
+    fn twin1750_print(first: u16, second: u16, line: *mut u8, length: *mut usize) -> u32;
+
+    fn twin1750_read(line: *const u8, line_len: usize, words: *mut u16, count: *mut usize) -> u32;
 }
 
 /// Loads an image on a packed state of [`STATE_WORDS`](crate::STATE_WORDS) words (see [`State::pack`](crate::State::pack)).
@@ -82,5 +87,31 @@ pub fn run_words(
             ports.len(),
         )
     };
+    Refusal::check(answer)
+}
+
+/// Prints an instruction into a buffer: its line at the start, whose length is left too; the other bytes stay. A refusal changes
+/// neither. [`print`](fn@crate::print) has no buffer.
+#[allow(unsafe_code)]
+pub fn print_into(
+    first: u16,
+    second: u16,
+    line: &mut [u8; LINE_BYTES],
+    length: &mut usize,
+) -> Result<(), Refusal> {
+    // SAFETY: both pointers are of references, so they are valid, aligned and not null. The line has the bytes that the library
+    // takes it to have, by its type; both are borrowed mutably, so they do not overlap. The library keeps no pointer.
+    let answer = unsafe { twin1750_print(first, second, line.as_mut_ptr(), length) };
+    Refusal::check(answer)
+}
+
+/// Reads a line into two words, and leaves how many they are; the second word of an instruction of one word is 0. A refusal changes
+/// neither. [`read`](crate::read) has no buffers.
+#[allow(unsafe_code)]
+pub fn read_into(line: &[u8], words: &mut [u16; 2], count: &mut usize) -> Result<(), Refusal> {
+    // SAFETY: the first pointer and length are those of a slice; the words are two, as the library takes them to be, by their
+    // type. What is written is borrowed mutably, so no two of the three overlap. The library is proved to stay within the length
+    // whatever it is, returns on every input, and keeps no pointer.
+    let answer = unsafe { twin1750_read(line.as_ptr(), line.len(), words.as_mut_ptr(), count) };
     Refusal::check(answer)
 }

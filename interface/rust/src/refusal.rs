@@ -30,13 +30,19 @@ pub enum Refusal {
     SharedWord = 11,
     /// The bodies do not end the image.
     Bodies = 12,
+    /// The mnemonic of a line is unknown, or a first word begins no legal instruction.
+    Mnemonic = 14,
+    /// The operands of a line do not have the form of the instruction's box.
+    Operands = 15,
+    /// An operand of a line is outside its field.
+    Field = 16,
     /// The packed state is not exactly 256 words.
     State = 100,
 }
 
 impl Refusal {
     /// All refusals.
-    pub const ALL: [Refusal; 13] = [
+    pub const ALL: [Refusal; 16] = [
         Refusal::Memory,
         Refusal::Pages,
         Refusal::Ports,
@@ -49,6 +55,9 @@ impl Refusal {
         Refusal::Range,
         Refusal::SharedWord,
         Refusal::Bodies,
+        Refusal::Mnemonic,
+        Refusal::Operands,
+        Refusal::Field,
         Refusal::State,
     ];
 

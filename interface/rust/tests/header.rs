@@ -39,6 +39,7 @@ fn numbers_of_the_header() {
         ("STATE", layout::STATE_WORDS),
         ("PAGES", 512),
         ("PORTS", 1024),
+        ("LINE", layout::LINE_BYTES),
         ("IC", layout::IC),
         ("SW", layout::SW),
         ("MK", layout::MK),

@@ -1,4 +1,4 @@
-//! Every refusal is reached by its number, changes nothing, and comes in the order of the questions.
+//! Every refusal of a load and a run is reached by its number, changes nothing, and comes in the order of the questions.
 
 mod common;
 
@@ -125,5 +125,5 @@ fn named_state() {
 #[test]
 fn numbers() {
     let numbers: Vec<u32> = Refusal::ALL.iter().map(|refusal| refusal.number()).collect();
-    assert_eq!(numbers, [1, 2, 3, 4, 5, 6, 7, 8, 9, 10, 11, 12, 100]);
+    assert_eq!(numbers, [1, 2, 3, 4, 5, 6, 7, 8, 9, 10, 11, 12, 14, 15, 16, 100]);
 }
