@@ -21,6 +21,7 @@ def text(call):
 
 A = {
     'fields/field': {'use': [EQUATIONS, OMEGA, SHAPES + '{unitOf, countOf, fieldOf}'], 'unf': {'*': 'fieldOf'}, **variants(*7 * ['omega arith'])},
+    'fields/count': {'use': [EQUATIONS, OMEGA], **variants(*7 * ['refl, omega arith'])},
     'fields/in_second': {'use': [EQUATIONS, SHAPES + '{meets}'], 'unf': {'*': 'meets'}, **variants(*7 * ['refl'])},
     'fields/omitted': {'use': [EQUATIONS, OPERANDS + '{omitted}'], 'unf': {'*': 'omitted'}, **variants(*6 * ['refl'])},
     'shapes/shape_of': {'use': [EQUATIONS, LISTS, OTHERWISE, SHAPES + '{shapes, shapeOf}'], 'unf': {'*': 'shapes shapeOf'},

@@ -17,7 +17,7 @@ from contracts import listed, path_of, read
 
 PAGE = 'docs/TRUST.md'
 FROM, TO = '<!-- tools/trust.py writes from here -->\n', '<!-- tools/trust.py writes up to here -->\n'
-THEOREMS = 'run/proofs/Isolated'
+THEOREMS = ('run/proofs/Isolated', 'line/proofs/RoundTrip')
 KIT = ('Prim.', 'mathlib.', 'lib.')
 HEAD = re.compile(r' *(?:(?:unfoldable |abbrev )?(?:pub )?([^\s:()]+) :|(?:pub )?(record|data) (\S+))(?=\s)')
 
@@ -27,13 +27,14 @@ ORDER = {
     'fixed_add/Fixed fixed_muldiv fixed_muldiv/Divide shift shift/Shift float float/Float float/Words float_add/Add float_exact/Exact float_exact/Steps float_mul/Multiply float_div/Divide '
     'float_convert/Convert',
     'Pages': 'page page/Pages page/Spans',
-    'Decoding': 'decode/Modes decode/Forms decode/Pages decode/Decode',
+    'Decoding': 'decode/Modes decode/Forms decode/Operands decode/Pages decode/Decode',
     'The machine': 'machine machine/State machine/Machine machine/Instructions machine/Entries machine/Step machine/Timelines machine/Runs run',
     'The instruction set': 'isa/Fields isa/Addressing isa/Accesses isa/Effects isa/Words isa/Integers isa/Floats isa/Blocks isa/Execute isa/Commands isa/Mil1750',
     'Two machines compared': 'machine/Isolation run/Calls',
     'Images': 'reset/Reset image image/Image image_load',
+    'Mnemonic lines': 'choice/Search line_operand line_operand/Numerals line_operand/Shapes line_operand/Operands line_table/Boxes line line/Lines',
     'The program': 'text/Texts report/Report program/Printed',
-    'The packed state and the C calls': 'packed/Packed capi/Calls',
+    'The packed state and the C calls': 'packed/Packed capi/Calls capi/LineCalls',
 }
 # the kinds of lines, each line being of the first that fits
 KINDS = {
@@ -111,7 +112,7 @@ def read_definitions(file):
         head = HEAD.match(lines[0][1])
         if not head or any(HEAD.match(lines[place][1]) for place in starts[1:-1]):
             sys.exit(f'{file.path}:{lines[0][0]}: not one definition')
-        shown = outer + lines[:starts[1] if file.label == THEOREMS else None]
+        shown = outer + lines[:starts[1] if file.label in THEOREMS else None]
         text, name = '\n'.join(line for _, line in shown), head.group(1) or head.group(3)
         made = Definition(file, name, dict(shown), comments, text)
         constructors = re.findall(r'^ +(\S+) : ', text, flags=re.M) if head.group(2) == 'data' else []
@@ -137,12 +138,12 @@ def read_code(file):
 class Reach:
     """All files, the entry points, and what they come to: each definition with the one that cites it; and the names of the kit."""
     def __init__(self):
-        paths = sorted(glob.glob('crates/*/specs/*.antt') + glob.glob('crates/*/src/*.rt')) + [f'crates/{THEOREMS}.antt']
+        paths = sorted(glob.glob('crates/*/specs/*.antt') + glob.glob('crates/*/src/*.rt')) + [f'crates/{label}.antt' for label in THEOREMS]
         files = [File(path) for path in paths]
         self.files, self.kit = {file.label: file for file in files if not file.code}, {}
         self.code = {(file.crate, name): made for file in files if file.code for name, made in file.own.items()}
-        theorems = re.findall(r'^pub (\S+) :', read(f'crates/{THEOREMS}.antt'), flags=re.M)
-        self.entries = [self.code[name.split('::')[0], name] for name in listed()] + [self.files[THEOREMS].own[name] for name in theorems]
+        theorems = [self.files[label].own[name] for label in THEOREMS for name in re.findall(r'^pub (\S+) :', read(f'crates/{label}.antt'), flags=re.M)]
+        self.entries = [self.code[name.split('::')[0], name] for name in listed()] + theorems
         self.cited = self.closure(self.entries)
 
     def closure(self, entries):
@@ -246,7 +247,7 @@ def differences(reach, old, new):
 
 def unreached(reach):
     """Prints the definitions in specs/ that no entry point comes to."""
-    left = {label: [made for made in dict.fromkeys(file.own.values()) if made not in reach.cited] for label, file in reach.files.items() if label != THEOREMS}
+    left = {label: [made for made in dict.fromkeys(file.own.values()) if made not in reach.cited] for label, file in reach.files.items() if label not in THEOREMS}
     for label, several in left.items():
         if several:
             print(f'{label}: {len(several)} of {len(set(reach.files[label].own.values()))}, {len(lines_of(several))} lines: {", ".join(made.name for made in several)}')

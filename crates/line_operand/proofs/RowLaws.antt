@@ -16,7 +16,7 @@ use Rattle.line_operand.specs.declared.Parsed.{Parsed}
 use Rattle.line_operand.specs.declared.Parsed.the-variants.{Malformed, Outside, Value}
 use Rattle.text.specs.Texts.{hex}
 use Rattle.line_operand.specs.Numerals.{before, onward}
-use Rattle.line_operand.specs.Shapes.{unitOf, endOf, countOf, fieldOf, meets, covers}
+use Rattle.line_operand.specs.Shapes.{lowBit, endBit, unitOf, countOf, fieldOf, meets, covers}
 use Rattle.line_operand.specs.Operands.{spell, omitted, piece, sepAfter, tail, takenAs, placed, taken, joined, hidden, optional, sumAfter, restAfter, finished, reads}
 use Rattle.choice.proofs.TestLaws.{split, both, neither}
 use Rattle.line_operand.proofs.NumeralLaws.{Starts, cut, onward-starts, cut-plain, two-digits, three-digits}
@@ -231,7 +231,7 @@ no-field ss o t m h e = absurd (false≢true (sym (ap fails e) ∙ fails-reads s
 -- meeting goes both ways
 meets-both : (p q : Place) → meets q p ≡ false → meets p q ≡ false
 unfolding meets
-meets-both p q h = swap (ltb (unitOf q) (endOf p)) (ltb (unitOf p) (endOf q)) h
+meets-both p q h = swap (ltb (lowBit q) (endBit p)) (ltb (lowBit p) (endBit q)) h
   where
     swap : (a b : Bool) → a && b ≡ false → b && a ≡ false
     swap false true h = refl

@@ -1,5 +1,5 @@
 -- The places of fields in an instruction, which is one number: its first word, and 65,536 times its second one; and the shapes of operands. Assumes nothing.
-use Prim.Native.Nat.{ℕ, _/_, _%_}
+use Prim.Native.Nat.{ℕ, _-_, _/_, _%_, _^_}
 use mathlib.Core.Bool.{Bool, false, _&&_, _||_}
 use mathlib.Core.List.{List, [], _∷_}
 use lib.Dec.{ltb}
@@ -13,35 +13,32 @@ use Rattle.line_operand.specs.declared.Shape.{Shape}
 
 -- ---- places: bits 12 to 15, 8 to 11, 8 to 15, 6 and 7, 0 to 5 of the first word, and the second word
 
+-- the first bit of a place, and the one after its last, counted from the lowest bit of the number
+abbrev pub lowBit : Place → ℕ
+lowBit Nowhere = 0
+lowBit Lower = 0
+lowBit Upper = 4
+lowBit Byte = 0
+lowBit Base = 8
+lowBit Top = 10
+lowBit Second = 16
+
+abbrev pub endBit : Place → ℕ
+endBit Nowhere = 0
+endBit Lower = 4
+endBit Upper = 8
+endBit Byte = 8
+endBit Base = 10
+endBit Top = 16
+endBit Second = 32
+
 -- what one is worth at a place
 abbrev pub unitOf : Place → ℕ
-unitOf Nowhere = 1
-unitOf Lower = 1
-unitOf Upper = 16
-unitOf Byte = 1
-unitOf Base = 256
-unitOf Top = 1024
-unitOf Second = 65536
-
--- what the first number that does not fit is worth there
-abbrev pub endOf : Place → ℕ
-endOf Nowhere = 1
-endOf Lower = 16
-endOf Upper = 256
-endOf Byte = 256
-endOf Base = 1024
-endOf Top = 65536
-endOf Second = 4294967296
+unitOf p = 2 ^ lowBit p
 
 -- how many numbers fit
 abbrev pub countOf : Place → ℕ
-countOf Nowhere = 1
-countOf Lower = 16
-countOf Upper = 16
-countOf Byte = 256
-countOf Base = 4
-countOf Top = 64
-countOf Second = 65536
+countOf p = 2 ^ (endBit p - lowBit p)
 
 -- the number at a place of the instruction n
 unfoldable pub fieldOf : Place → ℕ → ℕ
@@ -49,7 +46,7 @@ fieldOf p n = n / unitOf p % countOf p
 
 -- whether two places have a bit in common
 unfoldable pub meets : Place → Place → Bool
-meets p q = ltb (unitOf p) (endOf q) && ltb (unitOf q) (endOf p)
+meets p q = ltb (lowBit p) (endBit q) && ltb (lowBit q) (endBit p)
 
 -- whether one of the shapes has a bit of a place
 unfoldable pub covers : List Shape → Place → Bool

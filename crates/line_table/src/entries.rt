@@ -18,6 +18,7 @@ pub const ROW_0: [u64; 16] = [
     0x0C00_093_44535442, // DSTB BR,DSPL
     0x0C00_093_44535442, // DSTB BR,DSPL
 ];
+
 pub const ROW_1: [u64; 16] = [
     0x1000_093_41422020, // AB BR,DSPL
     0x1000_093_41422020, // AB BR,DSPL
@@ -36,6 +37,7 @@ pub const ROW_1: [u64; 16] = [
     0x1C00_093_44422020, // DB BR,DSPL
     0x1C00_093_44422020, // DB BR,DSPL
 ];
+
 pub const ROW_2: [u64; 16] = [
     0x2000_093_46414220, // FAB BR,DSPL
     0x2000_093_46414220, // FAB BR,DSPL
@@ -54,6 +56,7 @@ pub const ROW_2: [u64; 16] = [
     0x2C00_093_46444220, // FDB BR,DSPL
     0x2C00_093_46444220, // FDB BR,DSPL
 ];
+
 pub const ROW_3: [u64; 16] = [
     0x3000_093_4F524220, // ORB BR,DSPL
     0x3000_093_4F524220, // ORB BR,DSPL
@@ -72,6 +75,7 @@ pub const ROW_3: [u64; 16] = [
     0x3C00_093_46434220, // FCB BR,DSPL
     0x3C00_093_46434220, // FCB BR,DSPL
 ];
+
 pub const ROW_4: [u64; 16] = [
     0x4000_043_4C425820, // LBX BR,RX
     0x4000_043_4C425820, // LBX BR,RX
@@ -90,6 +94,7 @@ pub const ROW_4: [u64; 16] = [
     0, // 4E00
     0, // 4F00
 ];
+
 pub const ROW_5: [u64; 16] = [
     0x5000_4B5_53422020, // SB N,ADDR,RX
     0x5100_025_53425220, // SBR N,RB
@@ -108,6 +113,7 @@ pub const ROW_5: [u64; 16] = [
     0x5E00_021_54564252, // TVBR RA,RB
     0, // 5F00
 ];
+
 pub const ROW_6: [u64; 16] = [
     0x6000_062_534C4C20, // SLL RB,N1
     0x6100_062_53524C20, // SRL RB,N1
@@ -126,6 +132,7 @@ pub const ROW_6: [u64; 16] = [
     0x6E00_021_44534152, // DSAR RA,RB
     0x6F00_021_44534352, // DSCR RA,RB
 ];
+
 pub const ROW_7: [u64; 16] = [
     0x7000_4B5_4A432020, // JC C,LABEL,RX
     0x7100_4B5_4A434920, // JCI C,ADDR,RX
@@ -144,6 +151,7 @@ pub const ROW_7: [u64; 16] = [
     0x7E00_4B1_534A5320, // SJS RA,LABEL,RX
     0x7F00_0D1_55525320, // URS RA,Z12
 ];
+
 pub const ROW_8: [u64; 16] = [
     0x8000_4B1_4C202020, // L RA,ADDR,RX
     0x8100_021_4C522020, // LR RA,RB
@@ -162,6 +170,7 @@ pub const ROW_8: [u64; 16] = [
     0x8E00_4B1_4C4C4249, // LLBI RA,ADDR,RX
     0x8F00_021_504F504D, // POPM RA,RB
 ];
+
 pub const ROW_9: [u64; 16] = [
     0x9000_4B1_53542020, // ST RA,ADDR,RX
     0x9100_4B5_53544320, // STC N,ADDR,RX
@@ -180,6 +189,7 @@ pub const ROW_9: [u64; 16] = [
     0x9E00_4B1_534C4249, // SLBI RA,ADDR,RX
     0x9F00_021_5053484D, // PSHM RA,RB
 ];
+
 pub const ROW_10: [u64; 16] = [
     0xA000_4B1_41202020, // A RA,ADDR,RX
     0xA100_021_41522020, // AR RA,RB
@@ -198,6 +208,7 @@ pub const ROW_10: [u64; 16] = [
     0, // AE00
     0, // AF00
 ];
+
 pub const ROW_11: [u64; 16] = [
     0xB000_4B1_53202020, // S RA,ADDR,RX
     0xB100_021_53522020, // SR RA,RB
@@ -216,6 +227,7 @@ pub const ROW_11: [u64; 16] = [
     0, // BE00
     0, // BF00
 ];
+
 pub const ROW_12: [u64; 16] = [
     0xC000_4B1_4D532020, // MS RA,ADDR,RX
     0xC100_021_4D535220, // MSR RA,RB
@@ -234,6 +246,7 @@ pub const ROW_12: [u64; 16] = [
     0, // CE00
     0, // CF00
 ];
+
 pub const ROW_13: [u64; 16] = [
     0xD000_4B1_44562020, // DV RA,ADDR,RX
     0xD100_021_44565220, // DVR RA,RB
@@ -252,6 +265,7 @@ pub const ROW_13: [u64; 16] = [
     0, // DE00
     0, // DF00
 ];
+
 pub const ROW_14: [u64; 16] = [
     0xE000_4B1_4F522020, // OR RA,ADDR,RX
     0xE100_021_4F525220, // ORR RA,RB
@@ -270,6 +284,7 @@ pub const ROW_14: [u64; 16] = [
     0, // EE00
     0, // EF00
 ];
+
 pub const ROW_15: [u64; 16] = [
     0xF000_4B1_43202020, // C RA,ADDR,RX
     0xF100_021_43522020, // CR RA,RB
@@ -288,6 +303,7 @@ pub const ROW_15: [u64; 16] = [
     0, // FE00
     0xFF00_000_4E4F5020, // NOP
 ];
+
 pub const ROW_16: [u64; 16] = [
     0x4000_043_4C425820, // LBX BR,RX
     0x4010_043_444C4258, // DLBX BR,RX
@@ -306,6 +322,7 @@ pub const ROW_16: [u64; 16] = [
     0x40E0_043_414E4458, // ANDX BR,RX
     0x40F0_043_4F524258, // ORBX BR,RX
 ];
+
 pub const ROW_17: [u64; 16] = [
     0, // 4A00
     0x4A01_0B1_41494D20, // AIM RA,DATA
@@ -324,4 +341,5 @@ pub const ROW_17: [u64; 16] = [
     0, // 4A0E
     0, // 4A0F
 ];
+
 pub const BPT: u64 = 0xFFFF_000_42505420;

@@ -1,7 +1,7 @@
 // The mnemonics of section 5 as one constant table of entries in rows, found by a first word or by a name; and the parts of an entry.
+mod entries;
 pub mod entry;
 pub mod name;
-mod entries;
 
 ghost use mathlib.Core.Path.{_≡_};
 ghost use mathlib.Core.Bool.{true};
@@ -104,28 +104,28 @@ fn key(text: &[u8]) -> u64
 }
 
 // The row where a search for a name starts, by its first letter: one near most mnemonics with that letter. Any row would do, since the search goes round.
-fn first_row(letter: u64) -> usize
+fn first_row(letter: u8) -> usize
     ensures { λ r. ⌜ r < 18 ⌝ }
 {
     match letter {
-        65 => 10,
-        66 => 7,
-        67 => 15,
-        68 => 6,
-        69 => 8,
-        70 => 10,
-        73 => 10,
-        74 => 7,
-        76 => 7,
-        77 => 12,
-        78 => 11,
-        79 => 14,
-        80 => 8,
-        82 => 5,
-        83 => 5,
-        84 => 5,
-        85 => 7,
-        88 => 14,
+        b'A' => 10,
+        b'B' => 7,
+        b'C' => 15,
+        b'D' => 6,
+        b'E' => 8,
+        b'F' => 10,
+        b'I' => 10,
+        b'J' => 7,
+        b'L' => 7,
+        b'M' => 12,
+        b'N' => 11,
+        b'O' => 14,
+        b'P' => 8,
+        b'R' => 5,
+        b'S' => 5,
+        b'T' => 5,
+        b'U' => 7,
+        b'X' => 14,
         _ => 0,
     }
 }
@@ -170,7 +170,7 @@ pub fn by_name(text: &[u8]) -> u64
         return 0;
     }
     let k = key(text);
-    let start = first_row(k / 16777216);
+    let start = first_row((k / 16777216 % 256) as u8);
     let i = search(start, 18, k);
     if i < 288 {
         return entry_at(i);

@@ -1,4 +1,4 @@
--- Written by tools/prove.py from answers/line_table.py: answer 2a50b6a346bc, proof 591a5ed11b5e.
+-- Written by tools/prove.py from answers/line_table.py: answer 2a50b6a346bc, proof a69a8a60ce19.
 -- `line_table::by_name` meets its contract. Assumes nothing.
 use Prim.Native.Nat.{_%_}
 use Rattle.line_table.proofs.EntryLaws.{bpt-entry, passed-round, too-long, not-named, named-here}
@@ -38,5 +38,5 @@ returns-5 c = not-named (c .before .before .before .before .before .before .befo
 pub by-name-spec : {M : Type 1} → statement M
 by-name-spec =
     tie.close
-    (tie.spec returns (λ c κs. search needs) (λ c κs. search needs) search-requires entry-at-requires returns-2 search-requires-2 entry-at-requires-2
-    returns-3 returns-4 returns-5)
+    (tie.spec returns (λ c κs. search needs) (λ c. search needs) (λ c κs. search needs) search-requires entry-at-requires returns-2 search-requires-2
+    entry-at-requires-2 returns-3 returns-4 returns-5)
