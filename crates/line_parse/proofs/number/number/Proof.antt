@@ -15,15 +15,15 @@ returns c = (number-bad (c .before .before .before .before .before .args .text .
 
 returns-2 : tie.Need-returns-2
 unfolding inside
-returns-2 c = rw (← number-good (c .before .before .before .before .before .before .args .text .now) (c .before .before .before .before .before .before .args .low) (c .before .before .before .before .before .before .args .count)  (c .before .before .scan .result) (c .before .before .before .before .before .before .pre) (sym (c .before .before .before .before .plain .ensures) ∙ c .before .before .before .if1 .taken) (c .before .before .scan .ensures) (c .before .if2 .left), lt-leb _ _ (c .if3 .taken)) (refl, omega arith)
+returns-2 c = rw (← number-good (c .before .before .before .before .before .before .args .text .now) (c .before .before .before .before .before .before .args .low) (c .before .before .before .before .before .before .args .count) (c .before .before .scan .result) (c .before .before .before .before .before .before .pre) (sym (c .before .before .before .before .plain .ensures) ∙ c .before .before .before .if1 .taken) (c .before .before .scan .ensures) (c .before .if2 .left), lt-leb _ _ (c .if3 .taken)) (refl, omega arith)
 
 returns-3 : tie.Need-returns-3
 unfolding inside
-returns-3 c = rw (← number-good (c .before .before .before .before .before .before .before .args .text .now) (c .before .before .before .before .before .before .before .args .low) (c .before .before .before .before .before .before .before .args .count)  (c .before .before .before .scan .result) (c .before .before .before .before .before .before .before .pre) (sym (c .before .before .before .before .before .plain .ensures) ∙ c .before .before .before .before .if1 .taken) (c .before .before .before .scan .ensures) (c .before .before .if2 .left), le-leb _ _ (c .before .if3 .left), lt-ltb _ _ (c .if4 .taken)) (refl, omega arith)
+returns-3 c = rw (← number-good (c .before .before .before .before .before .before .before .args .text .now) (c .before .before .before .before .before .before .before .args .low) (c .before .before .before .before .before .before .before .args .count) (c .before .before .before .scan .result) (c .before .before .before .before .before .before .before .pre) (sym (c .before .before .before .before .before .plain .ensures) ∙ c .before .before .before .before .if1 .taken) (c .before .before .before .scan .ensures) (c .before .before .if2 .left), le-leb _ _ (c .before .if3 .left), lt-ltb _ _ (c .if4 .taken)) (refl, omega arith)
 
 returns-4 : tie.Need-returns-4
 unfolding inside
-returns-4 c = rw (← number-good (c .before .before .before .before .before .before .before .args .text .now) (c .before .before .before .before .before .before .before .args .low) (c .before .before .before .before .before .before .before .args .count)  (c .before .before .before .scan .result) (c .before .before .before .before .before .before .before .pre) (sym (c .before .before .before .before .before .plain .ensures) ∙ c .before .before .before .before .if1 .taken) (c .before .before .before .scan .ensures) (c .before .before .if2 .left), le-leb _ _ (c .before .if3 .left), le-ltb _ _ (c .if4 .left)) (refl, omega arith)
+returns-4 c = rw (← number-good (c .before .before .before .before .before .before .before .args .text .now) (c .before .before .before .before .before .before .before .args .low) (c .before .before .before .before .before .before .before .args .count) (c .before .before .before .scan .result) (c .before .before .before .before .before .before .before .pre) (sym (c .before .before .before .before .before .plain .ensures) ∙ c .before .before .before .before .if1 .taken) (c .before .before .before .scan .ensures) (c .before .before .if2 .left), le-leb _ _ (c .before .if3 .left), le-ltb _ _ (c .if4 .left)) (refl, omega arith)
 
 returns-5 : tie.Need-returns-5
 unfolding inside
