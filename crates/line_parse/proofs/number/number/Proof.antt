@@ -1,4 +1,4 @@
--- Written by tools/prove.py from answers/line_parse.py: answer 53474bbdee6f, proof 25366b312ded.
+-- Written by tools/prove.py from answers/line_parse.py: answer 53474bbdee6f, proof 3a85a703fc80.
 -- `line_parse::number::number` meets its contract. Assumes nothing.
 use Rattle.line_operand.specs.Operands.{inside}
 use Rattle.line_parse.proofs.ScanLaws.{number-unplain, number-bad, number-good}
