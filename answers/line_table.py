@@ -20,7 +20,7 @@ A = {
     'row': {'use': [EQUATIONS, 'mathlib.Core.List.{[], _∷_}', 'Prim.Native.Nat.{ℕ}', OTHERWISE, 'Rattle.text.specs.Texts.{bytesOf}', 'Rattle.decode.specs.Pages.{pages}', BOXES + '{boxOf}',
             ENTRIES + '{keyOf, codeOf, entryIn, entryOf, wordAt, entriesFrom, rowAt}', LAWS + '{numbers, no-row}'],
         'unf': {'*': 'rowAt entriesFrom entryOf boxOf wordAt pages entryIn keyOf codeOf bytesOf', 'returns-19': ''},
-        **{'returns' + ('-%d' % n if n > 1 else ''): 'rw (@match .keys%d) refl' % n for n in range(1, 19)},
+        **{'returns' + ('-%d' % n if n > 1 else ''): 'sym (ap rowAt (@match .keys%d))' % n for n in range(1, 19)},
         'returns-19': 'sym (no-row (@args .r) (otherwise (@args .r) numbers 0 (@match .rest)))'},
     'entry_at': {'use': [EQUATIONS, OMEGA, LAWS + '{place-entry}'], 'default': 'omega arith', 'returns': 'rw (@row .ensures) (place-entry (@args .i) (@Start .pre))'},
     'special': {'use': [EQUATIONS, OMEGA, ENTRIES + '{entryOf, wordAt}', LAWS + '{bpt-entry, under-FF}'], 'unf': {'*': 'wordAt'},
