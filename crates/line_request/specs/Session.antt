@@ -52,7 +52,7 @@ onLast x = cond (eqb (x .at) 0) (heard x []) (onEnd x)
 unfoldable pub sessionOf : Reading → List ℕ → Session
 sessionOf r buffer = session (take (r .at) buffer) (r .at) (r .lines)
 
--- a turn with the buffer that it leaves, and the text in another, are what is heard
+-- a turn with the buffer that it leaves, and the text in another, are what is heard. The buffer's bytes behind the present line are left free: no later turn looks at them
 pub record Turned (h : Heard) (was : List ℕ) (turn : Turn) (buffer is : List ℕ) : Type 0 where
   pub session-is : sessionOf (turn .reading) buffer ≡ h .session
   pub text-is : Text was (h .text) is (turn .end)

@@ -32,7 +32,7 @@ fn keep(line: &mut [u8], at: usize, byte: u8)
     line[at] = byte;
 }
 
-// One byte. Of a line 65,537 bytes are kept, so that one of more than 65,536 is seen.
+// One byte. Of a line 65,537 bytes are kept, so that one of more than 65,536 is seen. What is behind the present line in its buffer is left free.
 pub fn take(r: Reading, byte: u8, line: &mut [u8; 65537], out: &mut [u8; 256]) -> Turn
     ensures { λ t. ⌜ Turned (onByte (sessionOf r (now (line .entry))) byte) (now (out .entry)) t (now (line .exit)) (now (out .exit)) ⌝ }
 {

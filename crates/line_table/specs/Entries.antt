@@ -73,7 +73,7 @@ rowAt r = cond (ltb r 18) (entriesFrom r) (replicate 16 0)
 abbrev pub Passed : ℕ → ℕ → ℕ → Type 0
 Passed key from to = (k : ℕ) → from ≤ k → k < to → entryOf (wordAt k) % 4294967296 ≡ key → ⊥
 
--- what a search in a row t ensures: a place with the name, or 16 and no such place
+-- what a search in a row t ensures: a place with the name, whichever, since all entries with a name are alike; or 16 and no such place
 pub record InRow (t : List ℕ) (key r : ℕ) : Type 0 where
   pub here : r < 16 → getD t r 0 % 4294967296 ≡ key
   pub none-there : 16 ≤ r → (c : ℕ) → c < 16 → getD t c 0 % 4294967296 ≡ key → ⊥
