@@ -38,9 +38,9 @@ def told(i, call):
 
 A = {
     'timers/is_timer': by(COMMANDS + ' isTimer', use=[TESTS], arms='@arm', returns_9='rw (%s) refl' % others(8)),
-    'timers/set_timer_a': by(STATE + ' withTa withTaOn', returns='refl'),
-    'timers/set_timer_b': by(STATE + ' withTb withTbOn', returns='refl'),
-    'timers/timer_command': by(COMMANDS + ' timerCommand', STATE + ' withTa withTb withTaOn withTbOn', use=[COMMANDS + '{timerRules}', OTHERWISE, STATE + '{joined, withProcessor, withClock}'],
+    'timers/set_timer_a': by(STATE + ' withTa withRemA withTaOn', returns='refl'),
+    'timers/set_timer_b': by(STATE + ' withTb withRemB withTbOn', returns='refl'),
+    'timers/timer_command': by(COMMANDS + ' timerCommand', STATE + ' withTa withTb withRemA withRemB withTaOn withTbOn', use=[COMMANDS + '{timerRules}', OTHERWISE, STATE + '{joined, withProcessor, withClock}'],
         returns=timed(1, 'set-timer-a'), returns_2=timed(2, 'set-timer-a2'), returns_3=timed(3, 'set-timer-a3', ', ← @get .ensures'),
         returns_4=timed(4, 'set-timer-b'), returns_5=timed(5, 'set-timer-b2'), returns_6=timed(6, 'set-timer-b3', ', ← @get2 .ensures'),
         returns_7=told(7, 'put'), returns_8=told(8, 'put2'), returns_9='λ s core. sym (ap (λ f. f (withClock (withProcessor s (joined core (@args .regs .now))) (@args .clock)) (@args .k)) (otherwise (@args .command) timerRules _ (@match .rest)))'),

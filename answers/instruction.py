@@ -31,7 +31,7 @@ def became(fact):
 
 
 def settled(fact, weighed='@weighed .ensures'):
-    return 'settled-by (@args .core) _ _ %s _ _ (%s) (%s)' % (REGS, weighed, fact)
+    return 'settled-by (@args .core) _ _ %s _ _ _ (%s) (%s)' % (REGS, weighed, fact)
 
 
 WEIGHED, FAILED = '@weighed .ensures, command-none _ _', '@deny .ensures, command-none _ _'
@@ -67,7 +67,7 @@ A = {
         returns_2='rw (← %s .0, ← %s .1) (@carry-words .ensures)' % (LEFT, LEFT)),
     'carry_fast': by(STAGES + ' operated', ISA + ' mil1750 contextOf',
         use=[ACT + '{carried-clear, carried-fault, failed}', USER + '{became-worked, settled-by}', STATE + '{joined, withProcessor}', RETIRED + '{command-none, unsettled-lasting}'],
-        direct_requires='(@Start .pre .0, @Start .pre .1, @Start .pre .2, @Start .pre .3, @Start .pre .4)',
+        fast_requires='(@Start .pre .0, @Start .pre .1, @Start .pre .2, @Start .pre .3, @Start .pre .4)',
         returns='λ ports. (λ s. rw (%s, @update .ensures, ← carried-clear %s _ _ _ refl refl refl (%s .admitted), @fast .ensures .by-user) (%s), %s)'
             % (WEIGHED, CARRIED, DIRECT, became(DIRECT + ' .worked'), settled(DIRECT + ' .worked .processor-is', 'rw (← @update .ensures) (@weighed .ensures)')),
         returns_2='let k = @fast .ensures .when-refused (@if1 .left) in λ ports. (λ s. rw (%s, ← carried-fault %s _ _ _ refl refl refl _ (k .0), ← @advance .ensures, '
@@ -87,7 +87,7 @@ A = {
         returns='λ ports. (λ s. rw (← carried-read %s ports (@if1 .taken)) (@proceed .ensures ports .0 s), @proceed .ensures ports .1)' % FROM,
         returns_2='λ ports. (λ s. rw (%s, ← carried-denied %s ports (@if1 .left), ← @advance .ensures) (%s), %s)' % (FAILED, FROM, failed('ports'), DENIED)),
     'carry': by(use=[OMEGA, USER + '{on-block, off-block}', NUMBERS + '{number-least, number-path, number-block, number-rest}'],
-        carry_direct_requires='(@Start .pre .0, @Start .pre .2, @Start .pre .3, number-least %s (@Start .pre .3) (search needs), omega arith)' % NUMBER,
+        carry_fast_requires='(@Start .pre .0, @Start .pre .2, @Start .pre .3, number-least %s (@Start .pre .3) (search needs), omega arith)' % NUMBER,
         command_requires='(@Start .pre .0, @Start .pre .1, %s)' % PATH, executive_requires='(@Start .pre .0, %s)' % PATH,
         load_requires='(@Start .pre .0, @Start .pre .2, %s, @Start .pre .3)' % PATH,
         carry_block_requires='(@Start .pre .0, on-block (@args .n .form) _ refl (number-block %s (@Start .pre .3) (search needs) (omega arith) (omega arith)), @Start .pre .2)' % NUMBER,
@@ -95,17 +95,19 @@ A = {
         returns=anywhere('carry-fast'), returns_2='@command .ensures (@args .memory .now)',
         returns_3='@executive .ensures %s (@args .ports .now)' % REGS, returns_4=anywhere('load'), returns_5=anywhere('carry-block'),
         returns_6=anywhere('carry-ordinary')),
-    'begin': by(STAGES + ' carried', use=[ACT + '{failed}', USER + '{ready-form}', NUMBERS + '{number-form, decode-small}', 'Prim.Native.Nat.{_%_}', STAGES + '{view}', 'Rattle.form_table.specs.FormNumbers.{numberOf}',
+    'begin': by(STAGES + ' carried', use=[ACT + '{failed}', USER + '{ready-form, ready-first}', NUMBERS + '{number-form, decode-small}', 'Prim.Native.Nat.{_%_}', STAGES + '{view}', 'Rattle.form_table.specs.FormNumbers.{numberOf}',
                      'Rattle.decode.specs.Decode.{decodeOf}', STATE + '{joined, withProcessor}', RETIRED + '{command-none, unsettled-lasting}'],
         prepare_requires='(@Start .pre .0, @Start .pre .2, @Start .pre .4)',
         carry_requires='(@Start .pre .0, @Start .pre .1, @Start .pre .2, '
             '@Start .pre .3 ∙ ap numberOf (sym (ready-form %s (view (@args .core) %s) _ _ _ _ (sym (@prepare .ensures) ∙ @prepared .given .1) ∙ %s)))' % (PLAIN, PAGED, FORM),
-        returns='(λ s. rw (← %s, ← @prepare .ensures, @prepared .given .1) (@carry .ensures .0 s), @carry .ensures .1)' % FORM,
+        returns='(λ s. rw (← %s, ← @prepare .ensures, @prepared .given .1) (@carry .ensures .0 s), rw (← ready-first %s (view (@args .core) %s) _ _ _ _ (sym (@prepare .ensures) ∙ @prepared .given .1)) (@carry .ensures .1))'
+            % (FORM, PLAIN, PAGED),
         returns_2='(λ s. rw (%s, ← %s, ← @prepare .ensures, @prepared2 .given .1) (%s), %s)' % (FAILED, FORM, failed(), DENIED)),
-    'instruct': by(STAGES + ' instructed carried', use=[OMEGA, LOCATED, ACT + '{failed}', USER + '{prepared-at, prepared-refused}', RETIRED + '{command-none, unsettled-lasting}', STATE + '{joined, withProcessor}'],
+    'instruct': by(STAGES + ' instructed carried', use=[OMEGA, LOCATED, ACT + '{failed}', USER + '{prepared-at, prepared-refused, timing-at, timing-refused}', RETIRED + '{command-none, unsettled-lasting}', STATE + '{joined, withProcessor}'],
+        duration_of_requires='@Start .pre .4', entry_duration_requires='@Start .pre .4', add_spent='omega (arith, @Start .pre .5, @duration-of .ensures .2)', add_spent_2='omega (arith, @Start .pre .5, @entry-duration .ensures .1)',
         mul_w='omega (arith, %s)' % inside('first'), shared_slice_read_w=inside('first'), slice_read_w=inside('first'), decode_with_requires='@Start .pre .2',
         look_up_requires='(@Start .pre .0, %s)' % keyed(3, 'group-small')[0],
         begin_requires='(@Start .pre .0, @Start .pre .1, @Start .pre .3, @decode-with .ensures, sym (@look-up .ensures) ∙ @first .given .1)',
-        returns='(λ s. rw (prepared-at %s _ (@first .given .1)) (@begin .ensures .0 s), @begin .ensures .1)' % FETCHED,
-        returns_2='(λ s. rw (%s, prepared-refused %s _ (@first2 .given .1), ← @advance .ensures) (%s), %s)' % (FAILED, FETCHED, failed(), DENIED)),
+        returns='((λ s. rw (prepared-at %s _ (@first .given .1)) (@begin .ensures .0 s), rw (timing-at %s _ (@first .given .1), @duration-of .ensures .1) (@begin .ensures .1)), rw (timing-at %s _ (@first .given .1), ← @duration-of .ensures .0) refl)' % (FETCHED, FETCHED, FETCHED),
+        returns_2='((λ s. rw (%s, prepared-refused %s _ (@first2 .given .1), ← @advance .ensures) (%s), %s), rw (timing-refused %s _ (@first2 .given .1), ← @entry-duration .ensures .0) refl)' % (FAILED, FETCHED, failed(), DENIED, FETCHED)),
 }

@@ -5,7 +5,7 @@ PRIVILEGED = 'Rattle.instruction_privileged.proofs.PrivilegedLaws.'
 SYSTEM = 'Rattle.instruction_privileged.proofs.SystemLaws.'
 
 # what is unsettled, and has nothing left to do
-UNSETTLED = 'rw (@unsettled .ensures) (unsettled-lasting _ _ refl)'
+UNSETTLED = 'rw (@unsettled .ensures) (unsettled-lasting _ _ _)'
 
 
 # what a command leaves
@@ -26,11 +26,11 @@ A = {
         use=['Rattle.interrupt_entry.proofs.EntryLaws.{entered-by}', STATE + '{joined, withProcessor}'],
         returns='λ s regs ports. rw (← @call-vector .ensures, ← @advance .ensures) (entered-by %s %s _ (@args .memory .now) _ (@args .pages .now) ports 5 _ _ %s (@arrive .ensures))'
             % (BEX, SHIFTED, linked('call-vector', SHIFTED))),
-    'command': by(use=[RETIRED + '{command-none, unsettled-lasting}', PRIVILEGED + '{timer-became}', SYSTEM + '{xio-carried}', STATE + '{joined, withProcessor}'],
+    'command': by(use=[RETIRED + '{command-none, unsettled-lasting, commanded-lasting}', PRIVILEGED + '{timer-became}', SYSTEM + '{xio-carried}', STATE + '{joined, withProcessor}'],
         govern_requires='(@Start .pre .0, @Start .pre .1, sym (@is-timer .ensures) ∙ @if1 .left)',
         returns='λ memory. (λ s. rw (← xio-carried %s memory (@args .pages .now) (@args .ports .now) (@args .n) (@Start .pre .2)) '
-            '(timer-became %s memory (@args .pages .now) (@args .ports .now) (@args .n) _ _ (sym (@is-timer .ensures) ∙ @if1 .taken) (@field-a .ensures .0) (@resume .ensures)), '
-            'unsettled-lasting _ _ refl)' % (AROUND, AROUND),
+            '(timer-became %s memory (@args .pages .now) (@args .ports .now) (@args .n) _ (sym (@is-timer .ensures) ∙ @if1 .taken) (@resume .ensures)), '
+            'commanded-lasting _ _ _ _)' % (AROUND, AROUND),
         returns_2='λ memory. (λ s. rw (@unsettled .ensures, command-none _ _, ← xio-carried %s memory (@args .pages .now) (@args .ports .now) (@args .n) (@Start .pre .2)) '
             '(@govern .ensures s memory), %s)' % (AROUND, UNSETTLED)),
     'executive': by(use=[OMEGA, SYSTEM + '{bex-carried}', RETIRED + '{command-none, unsettled-lasting}', STATE + '{joined, withProcessor}'],

@@ -141,7 +141,7 @@ def failed(ports='(@args .ports .now)', kept='refl'):
     return 'failed %s _ (@args .memory .now) _ (@args .pages .now) %s _ _ (%s) refl' % (AROUND, ports, kept)
 
 
-DENIED = 'rw (@deny .ensures) (unsettled-lasting _ _ refl)'
+DENIED = 'rw (@deny .ensures) (unsettled-lasting _ _ _)'
 
 
 # the words that an entry stores, by the call that gave its vector

@@ -7,6 +7,7 @@ def line(call, add='add'):
 # how long the lines are
 NUMBERED = 'omega (arith, numbered-short (@args .message .now) (@args .number))'
 CASE, REPORT, TIME = 'case-short (@args .number) (@args .answer)', 'report-short (@args .steps) (@args .state)', 'time-short (@args .state)'
+REMAINDERS = 'omega (arith, remainder-short (@args .state))'
 ENTRY = 'omega (arith, entry-long (@args .kind) (@args .number) (@args .word))'
 
 
@@ -20,24 +21,26 @@ def sizes(call):
     return ' '.join('(omega (arith, @%s-arg%s .given))' % (call, n) for n in ('', '2', '3'))
 
 
-LEAST = '(@least .ensures .0) (@least2 .ensures .0) (@least3 .ensures .0)'
+LEAST = '(@least .ensures .0) (@least2 .ensures .0) (@least3 .ensures .0) (@least4 .ensures .0)'
 
 A = importing({
     'mathlib.Core.Bool': 'cond',
     'lib.ListN': 'length length-take',
     'Rattle.text.specs.Texts': 'Wrote hex',
     'Rattle.text.proofs.WroteLaws': 'wrote-none then whole',
-    'Rattle.test_case_line.specs.Texts': 'entryLine',
-    'Rattle.test_case.specs.Case': 'lending changed entered changesTo stateLines',
+    'Rattle.test_case_line.specs.Texts': 'remainderLine entryLine',
+    'Rattle.test_case.specs.Case': 'lending withDuration changed entered changesTo stateLines',
     'Rattle.test_case.specs.Session': 'begun withEntry onRun onEntry onLine nextLine onEnd withByte onByte onLast saidIf closing sessionOf',
-    'Rattle.test_case.proofs.TextLaws': 'added numbered-short case-short report-short time-short entry-long changes-same changes-more changes-all',
+    'Rattle.test_case.proofs.TextLaws': 'added numbered-short case-short report-short time-short remainder-short entry-long changes-same changes-more changes-all',
     'Rattle.test_case.proofs.CaseLaws': 'one-more fresh-is answer-is ran-is text-is',
 }, {
     'output/put_message': {'add-requires': NUMBERED, 'returns': '(%s, %s)' % (line('numbered-line'), NUMBERED)},
     'output/put_if': {'unf': {'*': 'saidIf'}, 'returns': 'rw (@if1 .taken) (@put-message .ensures)', 'returns-2': 'rw (@if1 .left) (wrote-none _ _, omega arith)'},
     'output/put_state': {'unf': {'*': 'stateLines'},
         'add-requires': 'omega (arith, %s)' % CASE, 'add-requires-2': 'omega (arith, %s, %s)' % (CASE, REPORT), 'add-requires-3': 'omega (arith, %s, %s, %s)' % (CASE, REPORT, TIME),
-        'returns': '(then (%s) (then (%s) (%s)), omega (arith, %s, %s, %s))' % (line('case-line'), line('report', 'add2'), line('time-line', 'add3'), CASE, REPORT, TIME)},
+        'put-remainders-requires': 'omega (arith, %s, %s, %s)' % (CASE, REPORT, TIME),
+        'returns': '(then (%s) (then (%s) (then (%s) (@put-remainders .ensures .0))), omega (arith, %s, %s, %s, @put-remainders .ensures .1))' % (line('case-line'), line('report', 'add2'), line('time-line', 'add3'), CASE, REPORT, TIME)},
+    'output/put_remainders': {'add-requires': REMAINDERS, 'returns': '(rw (@if1 .taken) (%s), %s)' % (line('remainder-line'), REMAINDERS), 'returns-2': '(rw (@if1 .left) (wrote-none _ _), omega arith)'},
     'output/put_entry': {'add-requires': ENTRY, 'returns': '(%s, %s)' % (line('entry-line'), ENTRY)},
     'output/put_changes': {'default': 'omega arith',
         'Inv-loop': '(n ≤ length after) × (Wrote out₀ at (changesTo kind before after n) out to) × (to ≤ at + 12 * n)', 'μ-loop': 'length after - n',
@@ -48,19 +51,19 @@ A = importing({
     'case_run/made': {'returns': 'rw (eq-eqb _ 0 (@if1 .taken)) refl', 'returns-2': 'rw (ne-eqb _ 0 (@if1 .left)) refl'},
     'case_run/run_part': {**{
         'slice-aggregate-run' + n: 'omega (arith, length-take (@least%s .result) (@args .%s .now), @least%s .ensures .1)' % (k, words, k)
-        for n, k, words in (('', '', 'memory'), ('-2', '2', 'pages'), ('-3', '3', 'ports'))},
-        'returns': '(answer-is _ _ _ _ _ _ _ _ _ %s (@run .ensures .0), ran-is _ _ _ _ _ _ _ _ _ %s (@run .ensures .1))' % (LEAST, LEAST)},
+        for n, k, words in (('', '', 'memory'), ('-2', '2', 'pages'), ('-3', '3', 'ports'), ('-4', '4', 'durations'))},
+        'returns': 'λ timed. (answer-is _ _ _ _ _ _ timed _ _ _ _ _ %s (@run .ensures .0), ran-is _ _ _ _ _ _ timed _ _ _ _ _ %s (@run .ensures .1))' % (LEAST, LEAST)},
     'case_run/run_case': {'unf': {'*': 'onRun sessionOf'},
-        'returns': 'rw (← one-more (@args .r .cases) _ (@wrapping-add-u32 .ensures)) (record { session-is = @begin .ensures; text-is = whole (rw (← text-is _ _ _ (@run-part .ensures .0) (@number .ensures) (@made .ensures) (@run-part .ensures .1)) '
-            '(then (@put-state .ensures .0) (then (@put-changes .ensures .0) (then (@put-changes2 .ensures .0) (@put-changes3 .ensures .0))))) })'},
+        'returns': 'rw (← one-more (@args .r .cases) _ (@wrapping-add-u32 .ensures)) (record { session-is = @begin .ensures; text-is = whole (rw (← text-is _ _ _ (@run-part .ensures (@args .r .timed) .0) (@number .ensures) (@made .ensures) (@run-part .ensures (@args .r .timed) .1)) '
+            '(then (@put-state .ensures .0) (@put-all-changes .ensures))) })'},
+    'output/put_all_changes': {'returns': 'then (@put-changes .ensures .0) (then (@put-changes2 .ensures .0) (@put-changes3 .ensures .0))'},
     'enter/lend': {'unf': {'*': 'lending'}, 'returns': 'rw (eq-eqb _ _ (@if1 .taken)) refl',
-        'returns-2': 'rw (ne-eqb _ _ (@if1 .left), eq-eqb _ _ (@if2 .taken)) refl', 'returns-3': 'rw (ne-eqb _ _ (@if1 .left), ne-eqb _ _ (@if2 .left)) refl'},
+        'returns-2': 'rw (ne-eqb _ _ (@if1 .left), eq-eqb _ _ (@if2 .taken)) refl', 'returns-3': 'rw (ne-eqb _ _ (@if1 .left), ne-eqb _ _ (@if2 .left), eq-eqb _ _ (@if3 .taken)) refl', 'returns-4': 'rw (ne-eqb _ _ (@if1 .left), ne-eqb _ _ (@if2 .left), ne-eqb _ _ (@if3 .left)) refl'},
+    'enter/set_duration': {'unf': {'*': 'withDuration'}, 'returns': 'rw (eq-eqb _ _ (@if1 .taken)) refl', 'returns-2': 'rw (ne-eqb _ _ (@if1 .left)) (@put .ensures)'},
     'enter/enter': {'unf': {'*': 'sessionOf withEntry entered changed'},
         'returns': 'rw (eq-eqb _ _ (@if1 .taken), @lend .ensures) refl',
-        'returns-2': 'rw (ne-eqb _ _ (@if1 .left), eq-eqb _ _ (@if2 .taken), @put .ensures) refl',
-        'returns-3': 'rw (ne-eqb _ _ (@if1 .left), ne-eqb _ _ (@if2 .left), eq-eqb _ _ (@if3 .taken), @put2 .ensures) refl',
-        'returns-4': 'rw (ne-eqb _ _ (@if1 .left), ne-eqb _ _ (@if2 .left), ne-eqb _ _ (@if3 .left), eq-eqb _ _ (@if4 .taken), @put3 .ensures) refl',
-        'returns-5': 'rw (ne-eqb _ _ (@if1 .left), ne-eqb _ _ (@if2 .left), ne-eqb _ _ (@if3 .left), ne-eqb _ _ (@if4 .left), @state .ensures) refl'},
+        **{'returns-%d' % n: 'rw (%s, @%s .ensures) refl' % (', '.join(['ne-eqb _ _ (@if%d .left)' % k for k in range(1, n)] + (['eq-eqb _ _ (@if%d .taken)' % n] if n < 6 else [])), call)
+           for n, call in ((2, 'set-duration'), (3, 'put'), (4, 'put2'), (5, 'put3'), (6, 'state'))}},
     'input/begin': {'unf': {'*': 'sessionOf begun'}, 'returns': 'rw (← fresh-is (@args .memory .now) (@args .pages .now) (@args .ports .now) %s (@reset .ensures)) refl' % sizes('reset')},
     'input/on_entry': {'unf': {'*': 'onEntry'}, 'returns': 'rw (eq-eqb _ _ (@if1 .taken)) (@run-case .ensures)',
         'returns-2': 'rw (ne-eqb _ _ (@if1 .left)) (record { session-is = @enter .ensures; text-is = whole (wrote-none _ 0) })'},

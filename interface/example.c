@@ -1,16 +1,16 @@
-/* An example of the C interface: loads examples/loop.image, runs 1,000 steps and prints the registers as the program `twin` does;
- * tries lengths that are refused; then prints instructions as mnemonic lines, reads them back, and tries lines that are refused.
- * Run it in the root of the repository. It ends with status 1 if anything is unexpected. */
+/* An example of the C interface: loads examples/loop.image, runs 1,000 steps and prints the registers as the program `twin` does, and
+ * the timers; runs on with other durations; tries lengths that are refused; then prints instructions as mnemonic lines, reads them
+ * back, and tries lines that are refused. Run it in the root of the repository. It ends with status 1 if anything is unexpected. */
 #include <stdio.h>
 #include <string.h>
 
 #include "twin1750.h"
 
-#if TWIN1750_VERSION != 3
-#error "this example is written for version 3 of the interface"
+#if TWIN1750_VERSION != 4
+#error "this example is written for version 4 of the interface"
 #endif
 
-enum { MEMORY = 16384, STEPS = 1000 };
+enum { MEMORY = 16384, STEPS = 1000, BGT = 0x79 };
 
 /* The machine. A list may be given with fewer words than it has. */
 struct machine {
@@ -21,6 +21,10 @@ struct machine {
 };
 
 static struct machine m, kept;
+
+/* What every run is lent of durations. */
+static uint16_t durations[TWIN1750_DURATIONS + 1];
+static size_t durations_len = TWIN1750_DURATIONS;
 
 static uint8_t image[32768];
 static size_t image_len;
@@ -73,7 +77,40 @@ static uint32_t load(size_t words, size_t size, size_t pages, size_t ports)
 
 static uint32_t run(uint32_t budget, size_t words, size_t size, size_t pages, size_t ports)
 {
-    return twin1750_run(budget, m.state, words, m.memory, size, m.pages, pages, m.ports, ports);
+    return twin1750_run(budget, durations, durations_len, m.state, words, m.memory, size, m.pages, pages, m.ports, ports);
+}
+
+/* A run with the right lengths of the machine. */
+static uint32_t run_right(uint32_t budget)
+{
+    return run(budget, TWIN1750_STATE, MEMORY, TWIN1750_PAGES, TWIN1750_PORTS);
+}
+
+/* BGT takes so many tenths of a microsecond, every other step 100. */
+static void lend(uint16_t tenths)
+{
+    for (int n = 0; n < TWIN1750_DURATIONS; n++)
+        durations[n] = n == BGT ? tenths : 100;
+}
+
+/* Both timers, each with its remainder, which have to be these. */
+static void timers(uint16_t a, uint16_t tenths_a, uint16_t b, uint16_t tenths_b)
+{
+    expect("timer A", m.state[TWIN1750_TIMER_A], a);
+    expect("remainder A", m.state[TWIN1750_REMAINDER_A], tenths_a);
+    expect("timer B", m.state[TWIN1750_TIMER_B], b);
+    expect("remainder B", m.state[TWIN1750_REMAINDER_B], tenths_b);
+    printf("timer A %u and %u tenths, timer B %u and %u tenths\n", (unsigned)a, (unsigned)tenths_a, (unsigned)b, (unsigned)tenths_b);
+}
+
+/* A call that was refused by the number has left the machine as it was kept. */
+static void unchanged(const char *what, uint32_t number)
+{
+    if (memcmp(&kept, &m, sizeof m) != 0) {
+        fprintf(stderr, "%s: a refusal changed something\n", what);
+        surprises++;
+    }
+    printf("%s: refused %u\n", what, (unsigned)number);
 }
 
 /* Both calls with other lengths answer the number, and leave the whole machine as it was. */
@@ -82,11 +119,18 @@ static void refused(const char *what, uint32_t number, size_t words, size_t size
     kept = m;
     expect(what, load(words, size, pages, ports), number);
     expect(what, run(1, words, size, pages, ports), number);
-    if (memcmp(&kept, &m, sizeof m) != 0) {
-        fprintf(stderr, "%s: a refusal changed something\n", what);
-        surprises++;
-    }
-    printf("%s: refused %u\n", what, (unsigned)number);
+    unchanged(what, number);
+}
+
+/* A run with another number of durations, whatever its budget is. */
+static void refused_durations(const char *what, size_t length)
+{
+    kept = m;
+    durations_len = length;
+    expect(what, run_right(0), TWIN1750_REFUSED_DURATIONS);
+    expect(what, run_right(2000000), TWIN1750_REFUSED_DURATIONS);
+    durations_len = TWIN1750_DURATIONS;
+    unchanged(what, TWIN1750_REFUSED_DURATIONS);
 }
 
 /* The line of an instruction, and that line back. The bytes behind it stay. */
@@ -137,21 +181,11 @@ static void lines(void)
     printf("4900: refused %d\n", TWIN1750_REFUSED_MNEMONIC);
 }
 
-int main(void)
+/* Lengths that are refused; what is not looked at stays too. */
+static void lengths(void)
 {
-    if (!read_image("examples/loop.image"))
-        return 1;
-    expect("load", load(TWIN1750_STATE, MEMORY, TWIN1750_PAGES, TWIN1750_PORTS), TWIN1750_DONE);
-    expect("run", run(STEPS, TWIN1750_STATE, MEMORY, TWIN1750_PAGES, TWIN1750_PORTS), TWIN1750_DONE);
-    print_state();
-    expect("ic", m.state[TWIN1750_IC], 1);
-    expect("r3", m.state[3], 0x0010);
-    expect("marks", m.state[TWIN1750_MARKS], TWIN1750_A_RUNS + TWIN1750_B_RUNS);
-    expect("counter", 65536u * m.state[TWIN1750_COUNTER_HIGH] + m.state[TWIN1750_COUNTER_LOW], STEPS);
-
-    /* what is not looked at stays too */
     m.state[TWIN1750_MARKS] |= 0x8000;
-    m.state[24] = 0x1750;
+    m.state[26] = 0x1750;
     m.state[TWIN1750_STATE - 1] = 0x1750;
     refused("no packed words", TWIN1750_REFUSED_STATE, 0, MEMORY, TWIN1750_PAGES, TWIN1750_PORTS);
     refused("32 packed words", TWIN1750_REFUSED_STATE, 32, MEMORY, TWIN1750_PAGES, TWIN1750_PORTS);
@@ -164,12 +198,36 @@ int main(void)
     refused("513 page registers", TWIN1750_REFUSED_PAGES, TWIN1750_STATE, MEMORY, TWIN1750_PAGES + 1, TWIN1750_PORTS);
     refused("1,023 ports", TWIN1750_REFUSED_PORTS, TWIN1750_STATE, MEMORY, TWIN1750_PAGES, TWIN1750_PORTS - 1);
     refused("1,025 ports", TWIN1750_REFUSED_PORTS, TWIN1750_STATE, MEMORY, TWIN1750_PAGES, TWIN1750_PORTS + 1);
+    refused_durations("no durations", 0);
+    refused_durations("256 durations", TWIN1750_DURATIONS - 1);
+    refused_durations("258 durations", TWIN1750_DURATIONS + 1);
 
     /* a call that is done leaves 0 there */
-    expect("run of no steps", run(0, TWIN1750_STATE, MEMORY, TWIN1750_PAGES, TWIN1750_PORTS), TWIN1750_DONE);
+    expect("run of no steps", run_right(0), TWIN1750_DONE);
     expect("marks", m.state[TWIN1750_MARKS], TWIN1750_A_RUNS + TWIN1750_B_RUNS);
-    expect("word 24", m.state[24], 0);
+    expect("word 26", m.state[26], 0);
     expect("the last word", m.state[TWIN1750_STATE - 1], 0);
+}
+
+int main(void)
+{
+    if (!read_image("examples/loop.image"))
+        return 1;
+    lend(100);
+    expect("load", load(TWIN1750_STATE, MEMORY, TWIN1750_PAGES, TWIN1750_PORTS), TWIN1750_DONE);
+    expect("run", run_right(STEPS), TWIN1750_DONE);
+    print_state();
+    timers(1000, 0, 100, 0);
+    expect("ic", m.state[TWIN1750_IC], 1);
+    expect("r3", m.state[3], 0x0010);
+    expect("marks", m.state[TWIN1750_MARKS], TWIN1750_A_RUNS + TWIN1750_B_RUNS);
+    expect("counter", 65536u * m.state[TWIN1750_COUNTER_HIGH] + m.state[TWIN1750_COUNTER_LOW], STEPS);
+
+    /* 28 steps of 37 tenths are 1,036 tenths */
+    lend(37);
+    expect("run", run_right(28), TWIN1750_DONE);
+    timers(1010, 36, 101, 36);
+    lengths();
     lines();
     return surprises == 0 ? 0 : 1;
 }

@@ -8,10 +8,15 @@
  *   pages    512 page registers: 0 to 255 the instruction set, 256 to 511 the operand set, each at 16 x group + page
  *   ports    1,024 ports
  *
+ * A run is also lent 257 durations, in tenths of a microsecond, which it only reads: numbers 0 to 255 are those of the opcodes,
+ * legal or not, 256 is that of a step that fetches no first word, which enters an interrupt or has its first fetch refused. At the
+ * end of each step its duration is added to the remainder of each timer that runs; timer A rises once for each 100 tenths in the sum,
+ * timer B once for each 1,000, and what is left is the new remainder. Two runs may be lent different durations.
+ *
  * Each pointer to a list is followed by the number of elements that it points to. A pointer is not null, also where that number is
- * 0, as with an image of no bytes, and is aligned for its type; no two of the lists overlap, and the image of a load overlaps none of
- * them. Any number may be given, and one that is wrong is refused. A call keeps nothing after it has returned, takes nothing from the
- * heap, and may run beside a call on other lists.
+ * 0, as with an image of no bytes, and is aligned for its type; no two of the lists overlap, and neither the image of a load nor the
+ * durations of a run overlap any of them. Any number may be given, and one that is wrong is refused. A call keeps nothing after it has
+ * returned, takes nothing from the heap, and may run beside a call on other lists; durations may be lent to both.
  *
  * A mnemonic line is the bytes of one instruction in the mnemonics of section 5 of the standard, such as LISP R3,16. It has no
  * newline and is not ended by a NUL: its length is a number of its own. The calls on lines take no machine. What they write to has a
@@ -29,7 +34,8 @@
  *   21       marks: bit 15 interrupts enabled, bit 14 hold, bit 13 timer A running, bit 12 timer B running;
  *            bits 0 to 11 are not looked at, and 0 after a call that is done
  *   22, 23   timer A, timer B
- *   24 to 30 kept for parts of a later version
+ *   24, 25   the remainders of timer A and of timer B, in tenths of a microsecond; any number may be given
+ *   26 to 30 kept for parts of a later version
  *   32, 33   the step counter, its high word first
  *
  * Every word that is not named here, or is kept, is not looked at, and is 0 after a call that is done.
@@ -49,13 +55,14 @@ extern "C" {
 #endif
 
 /* The version of this interface. It rises when a word of the layout or a call changes its meaning. */
-#define TWIN1750_VERSION 3
+#define TWIN1750_VERSION 4
 
-/* The numbers of packed words, page registers and ports that a call takes. */
+/* The numbers of packed words, page registers and ports that a call takes, and of durations that a run takes. */
 enum {
     TWIN1750_STATE = 256,
     TWIN1750_PAGES = 512,
-    TWIN1750_PORTS = 1024
+    TWIN1750_PORTS = 1024,
+    TWIN1750_DURATIONS = 257
 };
 
 /* The bytes that a line is printed into; the longest line has 17. */
@@ -73,6 +80,8 @@ enum {
     TWIN1750_MARKS = 21,
     TWIN1750_TIMER_A = 22,
     TWIN1750_TIMER_B = 23,
+    TWIN1750_REMAINDER_A = 24,
+    TWIN1750_REMAINDER_B = 25,
     TWIN1750_COUNTER_HIGH = 32,
     TWIN1750_COUNTER_LOW = 33
 };
@@ -85,9 +94,9 @@ enum {
     TWIN1750_B_RUNS = 8
 };
 
-/* The answers: done, or the question that was answered by "no". A load and a run ask 100 first, then 1 to 3; then a run asks 4 and 5,
- * a load 6 to 12, of which 9 to 11 are asked entry by entry. An image of no bytes is asked none after 6. Reading a line asks 14, then
- * 15 of the whole line, then 16; printing asks 14 alone. */
+/* The answers: done, or the question that was answered by "no". A load and a run ask 100 first, then 1 to 3; then a run asks 17, 4
+ * and 5, a load 6 to 12, of which 9 to 11 are asked entry by entry. An image of no bytes is asked none after 6. Reading a line asks
+ * 14, then 15 of the whole line, then 16; printing asks 14 alone. */
 enum {
     TWIN1750_DONE = 0,
     TWIN1750_REFUSED_MEMORY = 1,        /* is memory a multiple of 4,096 words, from 4,096 to 1,048,576? */
@@ -105,6 +114,7 @@ enum {
     TWIN1750_REFUSED_MNEMONIC = 14,     /* is the mnemonic known? print: does the first word begin a legal instruction? */
     TWIN1750_REFUSED_OPERANDS = 15,     /* do the operands have the form of the instruction's box? */
     TWIN1750_REFUSED_FIELD = 16,        /* is each operand inside its field? */
+    TWIN1750_REFUSED_DURATIONS = 17,    /* are there exactly 257 durations? */
     TWIN1750_REFUSED_STATE = 100        /* is the packed state exactly 256 words? */
 };
 
@@ -116,8 +126,9 @@ uint32_t twin1750_load(const uint8_t *image, size_t image_len,
                        uint16_t *pages, size_t pages_len,
                        uint16_t *ports, size_t ports_len);
 
-/* Runs exactly as many steps as the budget says. */
+/* Runs exactly as many steps as the budget says; by the durations of these the timers rise. */
 uint32_t twin1750_run(uint32_t budget,
+                      const uint16_t *durations, size_t durations_len,
                       uint16_t *state, size_t state_len,
                       uint16_t *memory, size_t memory_len,
                       uint16_t *pages, size_t pages_len,

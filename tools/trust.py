@@ -17,7 +17,7 @@ from contracts import listed, path_of, read
 
 PAGE = 'docs/TRUST.md'
 FROM, TO = '<!-- tools/trust.py writes from here -->\n', '<!-- tools/trust.py writes up to here -->\n'
-THEOREMS = ('run/proofs/Isolated', 'line/proofs/RoundTrip')
+THEOREMS = ('run/proofs/Isolated', 'line/proofs/RoundTrip', 'isa/proofs/OldTimers')
 KIT = ('Prim.', 'mathlib.', 'lib.')
 HEAD = re.compile(r' *(?:(?:unfoldable |abbrev )?(?:pub )?([^\s:()]+) :|(?:pub )?(record|data) (\S+))(?=\s)')
 
@@ -31,6 +31,7 @@ ORDER = {
     'The machine': 'machine machine/State machine/Machine machine/Instructions machine/Entries machine/Step machine/Timelines machine/Runs run',
     'The instruction set': 'isa/Fields isa/Addressing isa/Accesses isa/Effects isa/Words isa/Integers isa/Floats isa/Blocks isa/Execute isa/Commands isa/Mil1750',
     'Two machines compared': 'machine/Isolation run/Calls',
+    'The old rule of the timers': 'machine/OldTimers isa/OldTimers',
     'Images': 'reset/Reset image image/Image image_load',
     'Mnemonic lines': 'choice/Search line_operand line_operand/Numerals line_operand/Shapes line_operand/Operands line_table/Boxes line line/Lines',
     'The program': 'text/Texts report/Report program/Printed',

@@ -1,5 +1,6 @@
 //! One case: a random machine and a series of calls, all from the case's own seed.
 
+use crate::durations::durations;
 use crate::images::image;
 use crate::numbers::Numbers;
 use crate::plant::plant;
@@ -27,6 +28,8 @@ enum Kind {
 pub struct Case {
     numbers: Numbers,
     kind: Kind,
+    /// The durations that the next run is lent, if it is not lent others.
+    durations: Vec<u16>,
     pub calls: u32,
     made: u32,
 }
@@ -44,32 +47,40 @@ impl Case {
             _ => (Kind::Single, 192),
         };
         let lent = scene(&mut numbers);
+        let durations = durations(&mut numbers);
         // A large memory takes long to compare.
         let calls = if lent.memory.len() > 65_536 { calls.min(8) } else { calls };
-        (Case { numbers, kind, calls, made: 0 }, lent)
+        (Case { numbers, kind, durations, calls, made: 0 }, lent)
     }
 
-    /// Prepares the machine for the next call and gives that call.
+    /// Prepares the machine for the next call and gives that call; one run in four is lent other
+    /// durations than the last one.
     pub fn next(&mut self, lent: &mut Lent) -> Call {
         let numbers = &mut self.numbers;
         self.made += 1;
-        match self.kind {
+        if numbers.once_in(4) {
+            self.durations = durations(numbers);
+        }
+        let budget = match self.kind {
             Kind::Single => {
                 stir(numbers, lent);
                 plant(numbers, lent);
-                Call::Run(1 + numbers.below(4))
+                1 + numbers.below(4)
             }
             Kind::Stream => {
                 if numbers.once_in(2) {
                     stir(numbers, lent);
                 }
-                Call::Run(numbers.below(400))
+                numbers.below(400)
             }
-            Kind::Long if numbers.once_in(64) => Call::Run(BUDGET),
-            Kind::Long => Call::Run(5_000 + numbers.below(45_000)),
-            Kind::Images if self.made % 2 == 1 => Call::Load(image(numbers, lent.memory.len())),
-            Kind::Images => Call::Run(numbers.below(100)),
-            Kind::Refusals => near_refusal(numbers, lent),
-        }
+            Kind::Long if numbers.once_in(64) => BUDGET,
+            Kind::Long => 5_000 + numbers.below(45_000),
+            Kind::Images if self.made % 2 == 1 => {
+                return Call::Load(image(numbers, lent.memory.len()));
+            }
+            Kind::Images => numbers.below(100),
+            Kind::Refusals => return near_refusal(numbers, lent, self.durations.clone()),
+        };
+        Call::Run { budget, durations: self.durations.clone() }
     }
 }

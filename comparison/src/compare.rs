@@ -53,7 +53,7 @@ impl<'a> Batch<'a> {
         let answers =
             [self.reference.call(call, &mut pair.left), self.subject.call(call, &mut pair.right)];
         self.calls += 1;
-        if let (Call::Run(budget), 0) = (call, answers[0]) {
+        if let (Call::Run { budget, .. }, 0) = (call, answers[0]) {
             self.steps += u64::from(*budget);
         }
         answers

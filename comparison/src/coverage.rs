@@ -1,14 +1,15 @@
-//! Counts what the random programs reach: forms, commands, interrupts, faults, answers.
+//! Counts what the random programs reach: forms, commands, interrupts, faults, moments of the timers, answers.
 
 use crate::commands::{command_of, COMMANDS};
+use crate::moments::{Moment, MOMENTS};
 use crate::shapes::{form, form_name, forms, shape_of_form, FORMS};
 use crate::simulated::Watcher;
-use crate::watch::Next;
+use crate::watch::{Next, Seen};
 use simulator::State;
 use std::collections::BTreeMap;
 
 /// Answers that runs and loads can give, and loads of no bytes and of one byte.
-const RUN_ANSWERS: [u32; 7] = [0, 1, 2, 3, 4, 5, 100];
+const RUN_ANSWERS: [u32; 8] = [0, 1, 2, 3, 4, 5, 17, 100];
 const LOAD_ANSWERS: [u32; 12] = [0, 1, 2, 3, 6, 7, 8, 9, 10, 11, 12, 100];
 const NO_BYTES_ANSWERS: [u32; 5] = [0, 1, 2, 3, 100];
 const ONE_BYTE_ANSWERS: [u32; 5] = [1, 2, 3, 6, 100];
@@ -24,6 +25,7 @@ pub struct Coverage {
     commands: [u64; COMMANDS.len()],
     entries: [u64; 16],
     faults: [u64; FAULTS.len()],
+    moments: [u64; MOMENTS.len()],
     watched: u64,
     refused: u64,
     illegal: u64,
@@ -44,6 +46,7 @@ impl Default for Coverage {
             commands: [0; COMMANDS.len()],
             entries: [0; 16],
             faults: [0; FAULTS.len()],
+            moments: [0; MOMENTS.len()],
             watched: 0,
             refused: 0,
             illegal: 0,
@@ -56,16 +59,20 @@ impl Default for Coverage {
 }
 
 impl Watcher for Coverage {
-    fn stepped(&mut self, before: &State, next: Next, after: &mut State, _memory: &mut [u16]) {
+    fn stepped(&mut self, seen: &Seen, after: &mut State, _memory: &mut [u16]) {
         self.watched += 1;
-        let new = after.ft & !before.ft;
+        let new = after.ft & !seen.before.ft;
         for (count, bit) in self.faults.iter_mut().zip(FAULTS) {
             *count += u64::from(new & bit != 0);
         }
-        match next {
+        let moment = Moment::new(seen, after);
+        for (count, (_, is)) in self.moments.iter_mut().zip(&MOMENTS) {
+            *count += u64::from(is(&moment));
+        }
+        match seen.next {
             Next::Entry(number) => self.entries[number] += 1,
             Next::Instruction { first, command } => {
-                self.instruction(before, first, command, after);
+                self.instruction(seen.before, first, command, after);
             }
             Next::Refused => self.refused += 1,
         }
@@ -125,6 +132,9 @@ impl Coverage {
         for (bit, count) in FAULTS.iter().zip(self.faults) {
             ask(count > 0, format!("fault {bit:04X}"));
         }
+        for ((name, _), count) in MOMENTS.iter().zip(self.moments) {
+            ask(count > 0, name.to_string());
+        }
         for (what, given, answers) in self.answers() {
             for answer in answers {
                 ask(given.contains_key(answer), format!("answer {answer} of {what}"));
@@ -150,6 +160,8 @@ impl Coverage {
             forms.iter().copied().filter(|form| shape_of_form(*form).can_fault()).collect();
         let commands: Vec<(String, u64)> =
             COMMANDS.iter().map(|(name, _, _)| name.to_string()).zip(self.commands).collect();
+        let moments: Vec<(String, u64)> =
+            MOMENTS.iter().map(|(name, _)| name.to_string()).zip(self.moments).collect();
         let numbered = |counts: &[u64]| {
             counts.iter().enumerate().map(|(n, count)| (n.to_string(), *count)).collect::<Vec<_>>()
         };
@@ -161,6 +173,7 @@ impl Coverage {
             ("forms faulted", of(&can_fault, &self.faulted)),
             ("XIO commands done", commands),
             ("interrupts entered", numbered(&self.entries)),
+            ("moments of the timers", moments),
         ];
         let mut text = self.shares();
         for (what, counts) in rows {

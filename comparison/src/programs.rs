@@ -1,4 +1,4 @@
-//! The programs of the benchmark, each a machine to start from.
+//! The programs of the benchmark, each a machine to start from; their steps all take 100 tenths of a microsecond.
 
 use crate::packed::{A_RUNS, B_RUNS, ENABLED, IC, MARKS, MK, STATE_WORDS, SW, TIMER_A};
 use crate::subject::Lent;
@@ -156,8 +156,9 @@ mod tests {
     use crate::packed::{FT, PI};
     use crate::simulated::{Stepped, Watcher};
     use crate::subject::Subject;
-    use crate::watch::Next;
+    use crate::watch::{Next, Seen};
     use simulator::State;
+    use twin1750::HUNDRED_EACH;
 
     /// Counts entries by number, and the opcodes of instructions.
     #[derive(Default)]
@@ -168,8 +169,8 @@ mod tests {
     }
 
     impl Watcher for Counts {
-        fn stepped(&mut self, _: &State, next: Next, _: &mut State, _: &mut [u16]) {
-            match next {
+        fn stepped(&mut self, seen: &Seen, _: &mut State, _: &mut [u16]) {
+            match seen.next {
                 Next::Entry(number) => self.entries[number] += 1,
                 Next::Instruction { first, .. } => {
                     self.opcodes[usize::from(first >> 12)] += 1;
@@ -184,7 +185,7 @@ mod tests {
     fn programs_do_what_they_are_for() {
         for (name, mut lent) in programs() {
             let mut subject = Stepped { watcher: Counts::default() };
-            assert_eq!(subject.run(4_000, &mut lent), 0);
+            assert_eq!(subject.run(4_000, &HUNDRED_EACH, &mut lent), 0);
             let Counts { entries, opcodes, calls } = subject.watcher;
             let task = name == "paged task";
             assert_eq!(entries[1] > 100 && entries[7] > 10 && calls > 100, task, "{name}");

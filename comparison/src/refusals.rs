@@ -9,7 +9,7 @@ use crate::subject::{Call, Lent};
 pub const BUDGET: u32 = 1_000_000;
 
 /// Gives some list another length, or none, and makes a call at the limits.
-pub fn near_refusal(numbers: &mut Numbers, lent: &mut Lent) -> Call {
+pub fn near_refusal(numbers: &mut Numbers, lent: &mut Lent, mut durations: Vec<u16>) -> Call {
     let memory = memory_words(numbers);
     lent.state.resize(STATE_WORDS, 0);
     lent.memory.resize(memory, 0);
@@ -30,6 +30,9 @@ pub fn near_refusal(numbers: &mut Numbers, lent: &mut Lent) -> Call {
     if numbers.once_in(3) {
         return Call::Load(image(numbers, memory));
     }
+    if numbers.once_in(4) {
+        durations.resize(numbers.pick(&[0, 1, 256, 258, 300]), 7);
+    }
     let budget = match numbers.below(16) {
         0..=3 => numbers.pick(&[BUDGET + 1, BUDGET + 2, u32::MAX, 0x8000_0000]),
         4 => numbers.pick(&[0, 1]),
@@ -38,7 +41,7 @@ pub fn near_refusal(numbers: &mut Numbers, lent: &mut Lent) -> Call {
     if numbers.once_in(2) {
         near_the_end(numbers, lent, budget);
     }
-    Call::Run(budget)
+    Call::Run { budget, durations }
 }
 
 /// A memory's length: mostly one that is accepted, else one next to it.

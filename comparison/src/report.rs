@@ -35,11 +35,13 @@ impl Difference {
         }
         let call = pair.next();
         let start = pair.left.clone();
-        let (steps, before) = match call {
-            Call::Run(budget) if answers == [0, 0] => fewest(batch, &mut pair, budget),
+        let (steps, before) = match &call {
+            Call::Run { budget, durations } if answers == [0, 0] => {
+                fewest(batch, &mut pair, *budget, durations)
+            }
             _ => (0, start.clone()),
         };
-        let shortened = if steps == 0 { call.clone() } else { Call::Run(steps) };
+        let shortened = shortened(&call, steps);
         (pair.left, pair.right) = (start.clone(), start);
         let answers = batch.call(&shortened, &mut pair);
         let Pair { left, right, .. } = pair;
@@ -47,11 +49,22 @@ impl Difference {
     }
 }
 
+/// The same call with so many steps; 0 leaves it as it is.
+fn shortened(call: &Call, steps: u32) -> Call {
+    match call {
+        Call::Run { durations, .. } if steps != 0 => {
+            Call::Run { budget: steps, durations: durations.clone() }
+        }
+        _ => call.clone(),
+    }
+}
+
 /// Goes step by step until the two differ: the number of steps, and the machine before the last.
-fn fewest(batch: &mut Batch, pair: &mut Pair, budget: u32) -> (u32, Lent) {
+fn fewest(batch: &mut Batch, pair: &mut Pair, budget: u32, durations: &[u16]) -> (u32, Lent) {
+    let step = Call::Run { budget: 1, durations: durations.to_vec() };
     for steps in 1..=budget {
         let before = pair.left.clone();
-        let answers = batch.call(&Call::Run(1), pair);
+        let answers = batch.call(&step, pair);
         if !pair.alike(answers) {
             return (steps, before);
         }
@@ -67,12 +80,13 @@ impl fmt::Display for Difference {
     fn fmt(&self, f: &mut fmt::Formatter) -> fmt::Result {
         writeln!(f, "difference: seed {} case {} call {}", self.seed, self.case, self.round)?;
         match &self.call {
-            Call::Run(budget) if self.steps == 0 => {
-                writeln!(f, "run of {budget} steps, shown by the whole call only")?;
+            Call::Run { budget, durations } if self.steps == 0 => {
+                let list = format!("{} durations", durations.len());
+                writeln!(f, "run of {budget} steps with {list}, shown by the whole call only")?;
             }
-            Call::Run(budget) => {
+            Call::Run { budget, durations } => {
                 writeln!(f, "run of {budget} steps; the fewest that show it: {}", self.steps)?;
-                writeln!(f, "the last of them: {}", doing(&self.before))?;
+                writeln!(f, "the last of them: {}", doing(&self.before, durations))?;
             }
             Call::Load(image) => {
                 let shown = &image[..image.len().min(IMAGE_BYTES)];
@@ -97,11 +111,13 @@ fn parts(lent: &Lent) -> Vec<u16> {
     lent.state.iter().zip(unused()).filter(|(_, unused)| !unused).map(|(word, _)| *word).collect()
 }
 
-/// What the next step of a machine does, in print.
-fn doing(lent: &Lent) -> String {
+/// What the next step of a machine does, in print, and how long it takes.
+fn doing(lent: &Lent, durations: &[u16]) -> String {
     match unpack(&lent.state) {
         Some(state) => {
-            format!("{:04X?} at {:04X}", next(&state, &lent.memory, &lent.pages), lent.state[IC])
+            let next = next(&state, &lent.memory, &lent.pages);
+            let tenths = durations[next.number()];
+            format!("{next:04X?} at {:04X}, {tenths} tenths", lent.state[IC])
         }
         None => format!("a state of {} words instead of {STATE_WORDS}", lent.state.len()),
     }

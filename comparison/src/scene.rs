@@ -1,9 +1,10 @@
 //! A random machine: memory full of instructions and data, page registers, vectors, state.
 
 use crate::code::instruction;
+use crate::durations::{remainder, timer};
 use crate::numbers::Numbers;
-use crate::packed::{set_counter, unused};
-use crate::packed::{FT, IC, MARKS, MK, PI, STATE_WORDS, SW, TIMER_A, TIMER_B};
+use crate::packed::{set_counter, unused, FT, IC, MARKS, MK, PI, STATE_WORDS, SW};
+use crate::packed::{REMAINDER_A, REMAINDER_B, TIMER_A, TIMER_B};
 use crate::shapes::{shape, Shape};
 use crate::subject::Lent;
 use crate::watch::place;
@@ -122,10 +123,8 @@ pub fn stir(numbers: &mut Numbers, lent: &mut Lent) {
     state[PI] = if numbers.once_in(3) { pending(numbers) } else { 0 };
     state[FT] = if numbers.once_in(6) { numbers.word() } else { 0 };
     state[MARKS] = numbers.word() & numbers.pick(&[0xFFFD, 0xFFFD, 0xFFFF]);
-    for timer in [TIMER_A, TIMER_B] {
-        let near = 0_u16.wrapping_sub(numbers.small(6));
-        state[timer] = if numbers.once_in(2) { near } else { numbers.word() };
-    }
+    (state[TIMER_A], state[REMAINDER_A]) = (timer(numbers), remainder(numbers, 100));
+    (state[TIMER_B], state[REMAINDER_B]) = (timer(numbers), remainder(numbers, 1000));
     set_counter(state, counter(numbers));
     let first = numbers.word();
     for ((number, word), unused) in (0..).zip(state).zip(unused()) {

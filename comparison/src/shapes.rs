@@ -137,6 +137,7 @@ pub fn form_name(form: usize) -> String {
 mod tests {
     use super::{form, shape, Shape};
     use simulator::{reset, run};
+    use twin1750::HUNDRED_EACH;
 
     #[test]
     fn every_first_word_is_as_in_the_simulator() {
@@ -148,7 +149,8 @@ mod tests {
             let mut state = start.clone();
             state.ic = 0x0FFF;
             memory[0x0FFF] = word;
-            run(&mut state, &mut memory, &mut pages, &mut ports, 1).expect("an accepted run");
+            run(&mut state, &mut memory, &mut pages, &mut ports, &HUNDRED_EACH, 1)
+                .expect("an accepted run");
             let legal = form(word).is_some();
             let two = legal && shape((word >> 8) as u8).is_some_and(Shape::two_words);
             let fault = if !legal { 0x0040 } else { u16::from(two) << 15 };

@@ -2,7 +2,7 @@
 
 use crate::packed::{pack, unpack, WRONG_STATE};
 use crate::subject::{Lent, Subject};
-use crate::watch::{next, Next};
+use crate::watch::{next, Seen};
 use simulator::State;
 
 /// The second simulator.
@@ -15,8 +15,8 @@ pub struct Stepped<W> {
 
 /// Looks at every step; one that changes what it sees makes a machine with a mistake.
 pub trait Watcher {
-    /// Sees one step: the state before it, what it did, the state and the memory after it.
-    fn stepped(&mut self, before: &State, next: Next, after: &mut State, memory: &mut [u16]);
+    /// Sees one step: what was known of it before, the state and the memory after it.
+    fn stepped(&mut self, seen: &Seen, after: &mut State, memory: &mut [u16]);
     /// Sees the answer of a run.
     fn ran(&mut self, _answer: u32) {}
     /// Sees a load: how many bytes its image has, and its answer.
@@ -27,8 +27,8 @@ pub trait Watcher {
 const STEPPED: u32 = 4096;
 
 impl Subject for Simulated {
-    fn run(&mut self, budget: u32, lent: &mut Lent) -> u32 {
-        with_state(lent, |state, lent| whole(budget, state, lent))
+    fn run(&mut self, budget: u32, durations: &[u16], lent: &mut Lent) -> u32 {
+        with_state(lent, |state, lent| whole(budget, durations, state, lent))
     }
 
     fn load(&mut self, image: &[u8], lent: &mut Lent) -> u32 {
@@ -41,8 +41,8 @@ impl Subject for Simulated {
 }
 
 impl<W: Watcher> Subject for Stepped<W> {
-    fn run(&mut self, budget: u32, lent: &mut Lent) -> u32 {
-        let answer = with_state(lent, |state, lent| self.steps(budget, state, lent));
+    fn run(&mut self, budget: u32, durations: &[u16], lent: &mut Lent) -> u32 {
+        let answer = with_state(lent, |state, lent| self.steps(budget, durations, state, lent));
         self.watcher.ran(answer);
         answer
     }
@@ -56,23 +56,30 @@ impl<W: Watcher> Subject for Stepped<W> {
 
 impl<W: Watcher> Stepped<W> {
     /// A run step by step; refused, empty and very long ones are left to the simulator.
-    fn steps(&mut self, budget: u32, state: &mut State, lent: &mut Lent) -> Result<(), u32> {
+    fn steps(
+        &mut self,
+        budget: u32,
+        durations: &[u16],
+        state: &mut State,
+        lent: &mut Lent,
+    ) -> Result<(), u32> {
         if budget == 0 || budget > STEPPED || state.counter.checked_add(budget).is_none() {
-            return whole(budget, state, lent);
+            return whole(budget, durations, state, lent);
         }
         for _ in 0..budget {
             let (before, next) = (state.clone(), next(state, &lent.memory, &lent.pages));
-            whole(1, state, lent)?;
-            self.watcher.stepped(&before, next, state, &mut lent.memory);
+            whole(1, durations, state, lent)?;
+            let seen = Seen { before: &before, next, durations };
+            self.watcher.stepped(&seen, state, &mut lent.memory);
         }
         Ok(())
     }
 }
 
 /// A run by the simulator itself.
-fn whole(budget: u32, state: &mut State, lent: &mut Lent) -> Result<(), u32> {
+fn whole(budget: u32, durations: &[u16], state: &mut State, lent: &mut Lent) -> Result<(), u32> {
     let Lent { memory, pages, ports, .. } = lent;
-    simulator::run(state, memory, pages, ports, budget)
+    simulator::run(state, memory, pages, ports, durations, budget)
 }
 
 /// A call with the packed state taken apart; it is packed again unless the call is refused.

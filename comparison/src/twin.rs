@@ -7,9 +7,9 @@ use twin1750::{load_words, run_words, Refusal};
 pub struct Twin;
 
 impl Subject for Twin {
-    fn run(&mut self, budget: u32, lent: &mut Lent) -> u32 {
+    fn run(&mut self, budget: u32, durations: &[u16], lent: &mut Lent) -> u32 {
         let Lent { state, memory, pages, ports } = lent;
-        answer(run_words(budget, state, memory, pages, ports))
+        answer(run_words(budget, durations, state, memory, pages, ports))
     }
 
     fn load(&mut self, image: &[u8], lent: &mut Lent) -> u32 {

@@ -1,5 +1,6 @@
 //! What the next step is about to do: enter an interrupt, or run which instruction.
 
+use crate::packed::DURATIONS;
 use crate::shapes::{shape, Shape};
 use simulator::State;
 
@@ -12,6 +13,30 @@ pub enum Next {
     Instruction { first: u16, command: Option<u16> },
     /// Has its first fetch refused.
     Refused,
+}
+
+impl Next {
+    /// The number of the duration that the step takes: the opcode of its first word, or the last.
+    pub fn number(self) -> usize {
+        match self {
+            Next::Instruction { first, .. } => usize::from(first >> 8),
+            Next::Entry(_) | Next::Refused => DURATIONS - 1,
+        }
+    }
+}
+
+/// What is known of a step before it is made: the state, what it does, the durations lent to it.
+pub struct Seen<'a> {
+    pub before: &'a State,
+    pub next: Next,
+    pub durations: &'a [u16],
+}
+
+impl Seen<'_> {
+    /// How long the step takes.
+    pub fn duration(&self) -> u16 {
+        self.durations[self.next.number()]
+    }
 }
 
 /// What the next step of a machine does.

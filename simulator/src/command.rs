@@ -78,16 +78,16 @@ impl Machine<'_> {
         std::mem::take(&mut self.state.ft)
     }
 
-    /// 5.1: commands that start, halt and load the timers.
+    /// 5.1: commands that start, halt and load the timers. Starting and halting keep the remainder.
     fn timer_output(&mut self, command: u16, value: u16) -> Done {
         let state = &mut *self.state;
         match command {
             0x4008 => state.timer_a_running = true,  // TAS
             0x4009 => state.timer_a_running = false, // TAH
-            0x400A => (state.timer_a, state.timer_a_running) = (value, true), // OTA
+            0x400A => state.load_timer_a(value),     // OTA
             0x400C => state.timer_b_running = true,  // TBS
             0x400D => state.timer_b_running = false, // TBH
-            0x400E => (state.timer_b, state.timer_b_running) = (value, true), // OTB
+            0x400E => state.load_timer_b(value),     // OTB
             _ => return Err(Fault::COMMAND),
         }
         Ok(())

@@ -4,9 +4,8 @@ use crate::address::fields;
 use crate::machine::{Done, Fault, Machine};
 
 impl Machine<'_> {
-    /// Fetches and runs one instruction; a fault leaves everything but IC unchanged.
-    pub(crate) fn instruction(&mut self) -> Done {
-        let word = self.fetch()?;
+    /// Runs the instruction that a fetched word begins; a fault leaves everything but IC unchanged.
+    pub(crate) fn perform(&mut self, word: u16) -> Done {
         match word >> 12 {
             0x0..=0x3 => self.base_relative(word),
             0x4 => self.extended(word),

@@ -1,7 +1,8 @@
 //! A plain simulator of the MIL-STD-1750A processor: state, pages, interrupts, instructions.
 //!
-//! The caller lends memory, page registers and ports as slices of 16-bit words. Bit 0 is the most
-//! significant bit of a word. Paragraph numbers in comments are those of the processor's standard.
+//! The caller lends memory, page registers, ports and durations as slices of 16-bit words. Bit 0 is
+//! the most significant bit of a word. Paragraph numbers in comments are those of the processor's
+//! standard.
 
 #![forbid(unsafe_code)]
 
@@ -17,6 +18,7 @@ mod division;
 mod fixed;
 mod float;
 mod float_machine;
+mod generator;
 mod image;
 mod interrupt;
 mod jump;
@@ -39,8 +41,9 @@ pub mod test_cases;
 pub use float::{Float, Outcome, Width, EXTENDED, SINGLE};
 pub use image::load;
 pub use machine::{run, step};
-pub use program::{print, program, PROGRAM_BYTES, PROGRAM_STEPS, PROGRAM_WORDS};
-pub use state::{reset, State, PAGE_REGISTERS, PORTS};
+pub use program::{print, program};
+pub use program::{PROGRAM_BYTES, PROGRAM_DURATION, PROGRAM_STEPS, PROGRAM_WORDS};
+pub use state::{reset, State, DURATIONS, PAGE_REGISTERS, PORTS};
 
 /// The float operations of both widths, each on exact whole numbers.
 pub mod floats {

@@ -2,7 +2,7 @@
 
 use crate::image::load;
 use crate::machine::run;
-use crate::state::{State, PAGE_REGISTERS, PORTS};
+use crate::state::{State, DURATIONS, PAGE_REGISTERS, PORTS};
 
 /// Words of memory that the program holds.
 pub const PROGRAM_WORDS: usize = 16_384;
@@ -10,6 +10,8 @@ pub const PROGRAM_WORDS: usize = 16_384;
 pub const PROGRAM_BYTES: usize = 32_768;
 /// Steps that the program makes.
 pub const PROGRAM_STEPS: u32 = 1_000;
+/// The duration of every step of the program, in tenths of a microsecond.
+pub const PROGRAM_DURATION: u16 = 100;
 
 /// What the program prints for an input; given nothing, it runs the reset machine.
 pub fn program(input: &[u8]) -> String {
@@ -28,7 +30,8 @@ fn loaded_and_run(input: &[u8]) -> Result<State, u32> {
     let mut pages = [0; PAGE_REGISTERS];
     let mut ports = [0; PORTS];
     let mut state = load(input, &mut memory, &mut pages, &mut ports)?;
-    run(&mut state, &mut memory, &mut pages, &mut ports, PROGRAM_STEPS)?;
+    let durations = [PROGRAM_DURATION; DURATIONS];
+    run(&mut state, &mut memory, &mut pages, &mut ports, &durations, PROGRAM_STEPS)?;
     Ok(state)
 }
 

@@ -1,6 +1,6 @@
 //! The questions before running and loading: each "no" has its number.
 
-use crate::state::{PAGE_REGISTERS, PORTS};
+use crate::state::{DURATIONS, PAGE_REGISTERS, PORTS};
 
 /// The most steps of one run.
 const BUDGET_LIMIT: u32 = 1_000_000;
@@ -23,6 +23,11 @@ pub(crate) fn pages(pages: &mut [u16]) -> Result<&mut [u16; PAGE_REGISTERS], u32
 /// 3: there are exactly 1,024 ports.
 pub(crate) fn ports(ports: &mut [u16]) -> Result<&mut [u16; PORTS], u32> {
     ports.try_into().map_err(|_| 3)
+}
+
+/// 17: there are exactly 257 durations.
+pub(crate) fn durations(durations: &[u16]) -> Result<&[u16; DURATIONS], u32> {
+    durations.try_into().map_err(|_| 17)
 }
 
 /// 4: the budget is at most 1,000,000. 5: the counter has room for it.

@@ -4,6 +4,9 @@
 pub const PAGE_REGISTERS: usize = 512;
 /// How many input/output ports there are.
 pub const PORTS: usize = 1024;
+/// How many durations there are: one for each opcode, and a last one for a step that fetches no
+/// first word.
+pub const DURATIONS: usize = 257;
 
 /// Fixed point overflow, interrupt 4.
 pub(crate) const FIXED_OVERFLOW: u16 = 0x8000 >> 4;
@@ -43,6 +46,10 @@ pub struct State {
     pub timer_a: u16,
     /// Timer B.
     pub timer_b: u16,
+    /// The tenths of a microsecond that have passed since timer A rose.
+    pub remainder_a: u16,
+    /// The tenths of a microsecond that have passed since timer B rose.
+    pub remainder_b: u16,
     /// Whether timer A runs.
     pub timer_a_running: bool,
     /// Whether timer B runs.
@@ -65,6 +72,8 @@ impl Default for State {
             hold: false,
             timer_a: 0,
             timer_b: 0,
+            remainder_a: 0,
+            remainder_b: 0,
             timer_a_running: true,
             timer_b_running: true,
             counter: 0,
@@ -91,6 +100,16 @@ impl State {
     /// Sets all four bits of CS and keeps the rest of SW.
     pub(crate) fn set_condition(&mut self, condition: u16) {
         self.sw = (self.sw & 0x0FFF) | (condition << 12);
+    }
+
+    /// 5.1 OTA: loads timer A, clears its remainder and starts it.
+    pub(crate) fn load_timer_a(&mut self, value: u16) {
+        (self.timer_a, self.remainder_a, self.timer_a_running) = (value, 0, true);
+    }
+
+    /// 5.1 OTB: loads timer B, clears its remainder and starts it.
+    pub(crate) fn load_timer_b(&mut self, value: u16) {
+        (self.timer_b, self.remainder_b, self.timer_b_running) = (value, 0, true);
     }
 
     /// The pending interrupts that may be entered now, the hold mark aside.

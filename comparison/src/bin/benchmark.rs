@@ -4,6 +4,7 @@ use comparison::{programs, LegalLines, Lent, Simulated, Subject, Twin};
 use std::hint::black_box;
 use std::process::ExitCode;
 use std::time::Instant;
+use twin1750::HUNDRED_EACH;
 
 /// Steps of one run, the most that a run may have.
 const STEPS: u32 = 1_000_000;
@@ -27,7 +28,7 @@ const COLUMNS: [&str; 6] =
 /// Million steps a second of one run.
 fn measure(subject: &mut dyn Subject, lent: &mut Lent) -> Result<f64, String> {
     let begin = Instant::now();
-    match subject.run(STEPS, lent) {
+    match subject.run(STEPS, &HUNDRED_EACH, lent) {
         0 => Ok(f64::from(STEPS) / begin.elapsed().as_secs_f64() / 1e6),
         refusal => Err(format!("a run was refused: {refusal}")),
     }

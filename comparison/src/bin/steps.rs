@@ -7,6 +7,7 @@
 use comparison::{programs, LegalLines, Simulated, Subject, Twin};
 use std::hint::black_box;
 use std::process::ExitCode;
+use twin1750::HUNDRED_EACH;
 
 /// Makes the steps, and answers the machine's number.
 fn make(words: &[String]) -> Option<u32> {
@@ -22,7 +23,7 @@ fn make(words: &[String]) -> Option<u32> {
         _ => return None,
     };
     let (_, mut lent) = programs().into_iter().nth(program.parse().ok()?)?;
-    Some(subject.run(steps, &mut lent))
+    Some(subject.run(steps, &HUNDRED_EACH, &mut lent))
 }
 
 /// The way of a machine through lines, if that is asked for.

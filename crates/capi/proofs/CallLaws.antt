@@ -52,7 +52,7 @@ module _ (w memory pages ports : List ℕ) where
   unfolding loading given sized image.afterLoading
   loading-keeps b = keeps w _ _ _ (λ h. rw (ne-eqb _ _ h) refl) (eqb (length w) size)
 
-  pub running-keeps : (budget : ℕ) → (running w memory pages ports budget .answer ≡ 0 → ⊥)
-      → Replied (running w memory pages ports budget) (running w memory pages ports budget .answer) w memory pages ports
+  pub running-keeps : (budget : ℕ) (d : List ℕ) → (running w memory pages ports budget d .answer ≡ 0 → ⊥)
+      → Replied (running w memory pages ports budget d) (running w memory pages ports budget d .answer) w memory pages ports
   unfolding running given sized
-  running-keeps budget = keeps w _ _ _ (refused-left mil1750 _ (runOf budget)) (eqb (length w) size)
+  running-keeps budget d = keeps w _ _ _ (refused-left mil1750 _ (runOf budget d)) (eqb (length w) size)

@@ -44,6 +44,6 @@ module _ (w memory pages ports : List ℕ) where
   unfoldable pub loading : List ℕ → Reply
   loading b = sized w given (reply (image.numberOf (image.answerOf b given)) w (image.afterLoading b given))
 
-  -- a run
-  unfoldable pub running : ℕ → Reply
-  running budget = sized w given (reply (numberOf (answerOf given (runOf budget))) w (left mil1750 given (runOf budget)))
+  -- a run with the durations d
+  unfoldable pub running : ℕ → List ℕ → Reply
+  running budget d = sized w given (reply (numberOf (answerOf given (runOf budget d))) w (left mil1750 given (runOf budget d)))

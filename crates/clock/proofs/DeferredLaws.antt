@@ -1,97 +1,118 @@
 -- The clock after deferred ticks is reached tick by tick. Assumes nothing.
-use Prim.Native.Nat.{ℕ, _+_, _-_, _/_, _%_, _≤_}
-use mathlib.Core.Path.{_≡_, refl, sym, _∙_}
+use Prim.Native.Nat.{ℕ, zero, suc, _+_, _*_, _/_, _%_, _≤_, _<_}
+use mathlib.Core.Path.{_≡_, refl, sym, ap, ap₂, _∙_}
 use mathlib.Core.Bool.{Bool, true, false, cond, _&&_}
 use native.Mathlib.Omega.{arith}
-use lib.Bits.{or-zero-r}
-use lib.Dec.{eqb}
-use borrow.Author.Tests.{eqb-true, eqb-false, ne-eqb}
+use native.Mathlib.Nat.{mod-add-div', add-mul-div-right, mod-add-mod}
+use lib.Bits.{bitOr, or-zero-r}
+use lib.Dec.{eqb, leb}
+use borrow.Author.Tests.{ne-eqb, lt-leb}
 use Rattle.page.specs.Spans.{wrapped}
 use Rattle.machine.specs.declared.State.{State}
 use Rattle.machine.specs.declared.Clock.{Clock}
-use Rattle.machine.specs.State.{withClock, withPi, withTa, withTb, withCount}
-use Rattle.machine.specs.Step.{counted, risesB, risen, passing, elapsed, expired, ticked}
-use Rattle.clock.specs.Deferred.{Deferrable, afterTicks}
+use Rattle.machine.specs.State.{withClock, withPi, withCount}
+use Rattle.machine.specs.Step.{counted, rises, remaining, risen, passing, elapsed, expired, ticked}
+use Rattle.clock.specs.Deferred.{Deferrable, afterTicks, tickedBy}
 
--- a timer that runs or not, at t + n, rises to t + n + 1
-risen-on : (on : Bool) (t n : ℕ) → (on ≡ true → t + (n + 1) ≤ 65535) → risen on (cond on (t + n) t) ≡ cond on (t + (n + 1)) t
-unfolding risen wrapped
-risen-on true t n h = let k = h refl in omega arith
-risen-on false t n h = refl
+-- ---- a timer of any unit u, with the remainder r: over e tenths and then over d, as over both
 
--- and does not pass its end
-passing-on : (on : Bool) (t n k : ℕ) → (on ≡ true → t + (n + 1) ≤ 65535) → passing on (cond on (t + n) t) k ≡ 0
+rises-on : (u r e d : ℕ) → 0 < u → rises u r e + rises u ((r + e) % u) d ≡ rises u r (e + d)
+unfolding rises
+rises-on u r e d p =
+    let whole : (r + e) % u + (r + e) / u * u ≡ r + e = mod-add-div' (r + e) u in
+    let both : r + (e + d) ≡ (r + e) % u + d + (r + e) / u * u = omega (arith, whole) in
+    let sum : ((r + e) % u + d + (r + e) / u * u) / u ≡ ((r + e) % u + d) / u + (r + e) / u = add-mul-div-right ((r + e) % u + d) ((r + e) / u) p in
+    sym (ap (λ n. n / u) both ∙ sum ∙ omega arith)
+
+remaining-on : (on : Bool) (u r e d : ℕ) → remaining on u (remaining on u r e) d ≡ remaining on u r (e + d)
+unfolding remaining
+remaining-on true u r e d = mod-add-mod (r + e) u d ∙ ap (λ n. n % u) (omega arith)
+remaining-on false u r e d = refl
+
+-- two rises modulo 65,536
+wrapped-on : (t a b : ℕ) → wrapped (wrapped (t + a) + b) ≡ wrapped (t + (a + b))
+unfolding wrapped
+wrapped-on t a b = omega arith
+
+risen-on : (on : Bool) (u t r e d : ℕ) → 0 < u → risen on (risen on t (rises u r e)) (rises u (remaining on u r e) d) ≡ risen on t (rises u r (e + d))
+unfolding risen remaining
+risen-on true u t r e d p = wrapped-on t (rises u r e) (rises u ((r + e) % u) d) ∙ ap (λ n. wrapped (t + n)) (rises-on u r e d p)
+risen-on false u t r e d p = refl
+
+-- where it does not pass its end over e tenths, it does over d where it does over both
+passing-on : (on : Bool) (u t r e d k : ℕ) → 0 < u → (on ≡ true → t + rises u r e ≤ 65535)
+    → passing on (risen on t (rises u r e)) (rises u (remaining on u r e) d) k ≡ passing on t (rises u r (e + d)) k
+unfolding passing risen remaining wrapped
+passing-on true u t r e d k p h =
+    let inside = h refl in
+    let same : (t + rises u r e) % 65536 + rises u ((r + e) % u) d ≡ t + rises u r (e + d) = omega (arith, inside, rises-on u r e d p) in
+    rw same refl
+passing-on false u t r e d k p h = refl
+
+passing-none : (on : Bool) (t n k : ℕ) → (on ≡ true → t + n ≤ 65535) → passing on t n k ≡ 0
 unfolding passing
-passing-on true t n k h = let b = h refl in rw (ne-eqb (t + n) 65535 (omega arith)) refl
-passing-on false t n k h = refl
+passing-none true t n k h = rw (lt-leb 65536 (t + n) (let b = h refl in omega arith)) refl
+passing-none false t n k h = refl
 
--- the tenth of a number and of the next one
-ten-up : (k : ℕ) → (k + 1) % 10 ≡ 0 → (k + 1) / 10 ≡ k / 10 + 1
-ten-up k e = omega arith
+-- ---- timers A and B
 
-ten-same : (k : ℕ) → ((k + 1) % 10 ≡ 0 → ⊥) → (k + 1) / 10 ≡ k / 10
-ten-same k e = omega arith
+a-inside : (k : Clock) (e : ℕ) → Deferrable e k → k .taon ≡ true → k .ta + rises 100 (k .rema) e ≤ 65535
+unfolding rises
+a-inside k e h on = let b = h .a-inside on in omega arith
 
-ten-below : (c n : ℕ) → (c / 10 ≤ (c + n) / 10) × ((c + n) / 10 - c / 10 ≤ n)
-ten-below c n = (omega arith, omega arith)
+b-inside : (k : Clock) (e : ℕ) → Deferrable e k → k .tbon ≡ true → k .tb + rises 1000 (k .remb) e ≤ 65535
+unfolding rises
+b-inside k e h on = let b = h .b-inside on in omega arith
 
--- timer B, from t + (x - y), by whether the counter comes to a multiple of 10
-risen-to : (b : Bool) (t x y z n : ℕ) → y ≤ x → x - y ≤ n → t + (n + 1) ≤ 65535 → (b ≡ true → z ≡ x + 1) → (b ≡ false → z ≡ x) → risen b (t + (x - y)) ≡ t + (z - y)
-unfolding risen wrapped
-risen-to true t x y z n i j h up same = rw (up refl) (omega arith)
-risen-to false t x y z n i j h up same = rw (same refl) refl
+elapsed-elapsed : (k : Clock) (n e d : ℕ) → elapsed d (withCount (elapsed e k) ((k .count + n) % 4294967296)) ≡ withCount (elapsed (e + d) k) ((k .count + (n + 1)) % 4294967296)
+unfolding elapsed counted withCount
+elapsed-elapsed k n e d =
+    let count : ((k .count + n) % 4294967296 + 1) % 4294967296 ≡ (k .count + (n + 1)) % 4294967296 = omega arith in
+    rw (
+      count,
+      risen-on (k .taon) 100 (k .ta) (k .rema) e d (omega arith),
+      risen-on (k .tbon) 1000 (k .tb) (k .remb) e d (omega arith),
+      remaining-on (k .taon) 100 (k .rema) e d,
+      remaining-on (k .tbon) 1000 (k .remb) e d,
+    ) refl
 
-risen-ten : (c t n : ℕ) → t + (n + 1) ≤ 65535 → risen (eqb ((c + n + 1) % 10) 0) (t + ((c + n) / 10 - c / 10)) ≡ t + ((c + n + 1) / 10 - c / 10)
-risen-ten c t n h =
-    risen-to (eqb ((c + n + 1) % 10) 0) t ((c + n) / 10) (c / 10) ((c + n + 1) / 10) n (ten-below c n .0) (ten-below c n .1) h
-    (λ e. ten-up (c + n) (eqb-true _ _ e)) (λ e. ten-same (c + n) (eqb-false _ _ e))
+expired-elapsed : (k : Clock) (c e d : ℕ) → Deferrable e k → expired d (withCount (elapsed e k) c) ≡ expired (e + d) k
+unfolding expired elapsed withCount
+expired-elapsed k c e d h =
+    ap₂ bitOr (passing-on (k .taon) 100 (k .ta) (k .rema) e d 7 (omega arith) (a-inside k e h)) (passing-on (k .tbon) 1000 (k .tb) (k .remb) e d 9 (omega arith) (b-inside k e h))
 
-risen-tens : (on : Bool) (c t n : ℕ) → (on ≡ true → t + (n + 1) ≤ 65535)
-    → risen (on && eqb ((c + n + 1) % 10) 0) (cond on (t + ((c + n) / 10 - c / 10)) t) ≡ cond on (t + ((c + n + 1) / 10 - c / 10)) t
-unfolding risen
-risen-tens true c t n h = risen-ten c t n (h refl)
-risen-tens false c t n h = refl
+-- one tick more; before the first no time has passed
+elapsed-after-ticks : (k : Clock) (n e d : ℕ) → (n ≡ 0 → e ≡ 0) → elapsed d (afterTicks n e k) ≡ afterTicks (n + 1) (e + d) k
+unfolding afterTicks withCount elapsed counted
+elapsed-after-ticks k zero e d z = let same : e + d ≡ d = omega (arith, z refl) in rw same refl
+elapsed-after-ticks k (suc n) e d z = rw (ne-eqb (suc n) 0 (omega arith), ne-eqb (suc n + 1) 0 (omega arith)) (elapsed-elapsed k (suc n) e d)
 
-passing-tens : (on b : Bool) (c t n k : ℕ) → (on ≡ true → t + (n + 1) ≤ 65535) → passing (on && b) (cond on (t + ((c + n) / 10 - c / 10)) t) k ≡ 0
-unfolding passing
-passing-tens true true c t n k h = let b = h refl in rw (ne-eqb (t + ((c + n) / 10 - c / 10)) 65535 (omega arith)) refl
-passing-tens true false c t n k h = refl
-passing-tens false b c t n k h = refl
+expired-after-ticks : (k : Clock) (n e d : ℕ) → (n ≡ 0 → e ≡ 0) → (0 < n → Deferrable e k) → expired d (afterTicks n e k) ≡ expired (e + d) k
+unfolding afterTicks
+expired-after-ticks k zero e d z h = let same : e + d ≡ d = omega (arith, z refl) in rw same refl
+expired-after-ticks k (suc n) e d z h = rw (ne-eqb (suc n) 0 (omega arith)) (expired-elapsed k ((k .count + suc n) % 4294967296) e d (h (omega arith)))
 
--- one tick more
-pub elapsed-after-ticks : (c : Clock) (n : ℕ) → Deferrable (n + 1) c → elapsed (afterTicks n c) ≡ afterTicks (n + 1) c
-unfolding elapsed counted risesB withTa withTb withCount
-elapsed-after-ticks c n k =
-    let inside = k .count-inside in
-    let counts : (c .count + n + 1) % 4294967296 ≡ c .count + n + 1 = omega arith in
-    let same : c .count + n + 1 ≡ c .count + (n + 1) = omega arith in
-    rw (counts, risen-on (c .taon) (c .ta) n (k .a-inside), risen-tens (c .tbon) (c .count) (c .tb) n (k .b-inside), same) refl
+-- ---- of a state with this clock
 
-pub expired-after-ticks : (c : Clock) (n : ℕ) → Deferrable (n + 1) c → expired (afterTicks n c) ≡ 0
-unfolding expired risesB
-expired-after-ticks c n k =
-    rw (passing-on (c .taon) (c .ta) n 7 (k .a-inside), passing-tens (c .tbon) (eqb (counted (afterTicks n c) % 10) 0) (c .count) (c .tb) n 9 (k .b-inside)) refl
+pub ticked-after-ticks : (s : State) (k : Clock) (n e d : ℕ) → (n ≡ 0 → e ≡ 0) → (0 < n → Deferrable e k)
+    → ticked d (withClock s (afterTicks n e k)) ≡ tickedBy (n + 1) (e + d) (withClock s k)
+unfolding ticked tickedBy withPi
+ticked-after-ticks s k n e d z h = rw (expired-after-ticks k n e d z h, elapsed-after-ticks k n e d z) refl
 
--- of a state with this clock
-pub ticked-after-ticks : (s : State) (c : Clock) (n : ℕ) → Deferrable (n + 1) c → ticked (withClock s (afterTicks n c)) ≡ withClock s (afterTicks (n + 1) c)
-unfolding ticked withPi
-ticked-after-ticks s c n k = rw (expired-after-ticks c n k, or-zero-r (s .core .pi), elapsed-after-ticks c n k) refl
-
-raised-none : (on : Bool) (t : ℕ) (k : ℕ) → k ≡ 0 → cond on (t + k) t ≡ t
-raised-none true t k h = omega arith
-raised-none false t k h = refl
+-- where no timer passes its end
+pub ticked-inside : (s : State) (k : Clock) (n e : ℕ) → Deferrable e k → tickedBy n e (withClock s k) ≡ withClock s (afterTicks n e k)
+unfolding tickedBy expired withPi
+ticked-inside s k n e h =
+    rw (passing-none (k .taon) (k .ta) (rises 100 (k .rema) e) 7 (a-inside k e h), passing-none (k .tbon) (k .tb) (rises 1000 (k .remb) e) 9 (b-inside k e h), or-zero-r (s .core .pi)) refl
 
 -- no tick
-pub after-ticks-none : (c : Clock) → afterTicks 0 c ≡ c
-after-ticks-none c =
-    let none : (c .count + 0) / 10 - c .count / 10 ≡ 0 = omega arith in
-    let same : c .count + 0 ≡ c .count = omega arith in
-    rw (raised-none (c .taon) (c .ta) 0 refl, raised-none (c .tbon) (c .tb) ((c .count + 0) / 10 - c .count / 10) none, same) refl
+pub after-ticks-none : (k : Clock) (e : ℕ) → afterTicks 0 e k ≡ k
+unfolding afterTicks
+after-ticks-none k e = refl
 
--- fewer ticks
-pub deferrable-fewer : (m n : ℕ) (c : Clock) → m ≤ n → Deferrable n c → Deferrable m c
-deferrable-fewer m n c h k = record {
-  a-inside = λ e. let b = k .a-inside e in omega arith;
-  b-inside = λ e. let b = k .b-inside e in omega arith;
-  count-inside = let b = k .count-inside in omega arith;
+-- less time
+pub deferrable-less : (e f : ℕ) (k : Clock) → e ≤ f → Deferrable f k → Deferrable e k
+deferrable-less e f k h d = record {
+  a-inside = λ on. let b = d .a-inside on in omega arith;
+  b-inside = λ on. let b = d .b-inside on in omega arith;
 }

@@ -1,33 +1,42 @@
--- Deferred ticks: several are made at once, where no timer passes its end in them. Assumes nothing.
-use Prim.Native.Nat.{ℕ, _+_, _-_, _/_, _≤_}
+-- Deferred ticks: several are made at once, where no timer passes its end before the last. Assumes nothing.
+use Prim.Native.Nat.{ℕ, zero, suc, _+_, _-_, _*_, _/_, _%_, _≤_}
 use mathlib.Core.Path.{_≡_}
-use mathlib.Core.Bool.{Bool, true, cond, _&&_}
-use lib.Dec.{ltb}
+use mathlib.Core.Bool.{Bool, true, cond}
+use mathlib.Core.List.{List}
+use lib.Bits.{bitOr}
+use lib.Dec.{eqb, ltb}
+use lib.ListN.{length, getD}
+use Rattle.machine.specs.declared.State.{State}
 use Rattle.machine.specs.declared.Clock.{Clock}
+use Rattle.machine.specs.State.{withCore, withClock, withPi, withCount}
+use Rattle.machine.specs.Step.{elapsed, expired}
 
--- n ticks can be deferred: in them no running timer passes FFFF to 0000, and the counter stays within its 32 bits
-pub record Deferrable (n : ℕ) (c : Clock) : Type 0 where
-  pub a-inside : c .taon ≡ true → c .ta + n ≤ 65535
-  pub b-inside : c .tbon ≡ true → c .tb + n ≤ 65535
-  pub count-inside : c .count + n ≤ 4294967295
+-- e tenths can be deferred: in them no running timer passes FFFF to 0000
+pub record Deferrable (e : ℕ) (k : Clock) : Type 0 where
+  pub a-inside : k .taon ≡ true → k .ta * 100 + k .rema + e ≤ 6553599
+  pub b-inside : k .tbon ≡ true → k .tb * 1000 + k .remb + e ≤ 65535999
 
--- the clock after n ticks, where they can be deferred: timer B rises with each multiple of 10 that the counter comes to
-abbrev pub afterTicks : ℕ → Clock → Clock
-afterTicks n c =
-    record {
-      ta = cond (c .taon) (c .ta + n) (c .ta);
-      tb = cond (c .tbon) (c .tb + ((c .count + n) / 10 - c .count / 10)) (c .tb);
-      taon = c .taon;
-      tbon = c .tbon;
-      count = c .count + n;
-    }
+-- the clock after n ticks of e tenths together: the timers count as over one step of e tenths. No tick leaves it, whatever its remainders are
+unfoldable pub afterTicks : ℕ → ℕ → Clock → Clock
+afterTicks n e k = cond (eqb n 0) k (withCount (elapsed e k) ((k .count + n) % 4294967296))
 
--- at most n ticks in which a timer at t, where it runs, does not pass its end; timer B is taken to rise with every tick
-unfoldable pub ticksLeft : Bool → ℕ → ℕ → ℕ
-ticksLeft on t n = cond (on && ltb (65535 - t) n) (65535 - t) n
+-- the state after n ticks of e tenths together, before the last of which no timer passed its end
+unfoldable pub tickedBy : ℕ → ℕ → State → State
+tickedBy n e s = withClock (withCore s (withPi (s .core) (bitOr (s .core .pi) (expired e (s .clock))))) (afterTicks n e (s .clock))
 
--- at most n ticks that can be deferred
-unfoldable pub deferrableOf : Clock → ℕ → ℕ
-deferrableOf c n =
-    let most = ticksLeft (c .tbon) (c .tb) (ticksLeft (c .taon) (c .ta) n) in
-    cond (ltb (4294967295 - c .count) most) (4294967295 - c .count) most
+-- the longest of the first n durations, or 1 where all are 0; then of all. No step takes more tenths
+unfoldable pub longestTo : List ℕ → ℕ → ℕ
+longestTo d zero = 1
+longestTo d (suc n) = cond (ltb (longestTo d n) (getD d n 0)) (getD d n 0) (longestTo d n)
+
+unfoldable pub longestOf : List ℕ → ℕ
+longestOf d = longestTo d (length d)
+
+-- at most n ticks of at most `longest` tenths in which a timer that is t tenths after 0000, where it runs, does not pass `end`
+unfoldable pub ticksLeft : Bool → ℕ → ℕ → ℕ → ℕ → ℕ
+ticksLeft on t end longest n = cond on (cond (ltb end t) 0 (cond (ltb ((end - t) / longest) n) ((end - t) / longest) n)) n
+
+-- at most n such ticks that can be deferred
+unfoldable pub deferrableOf : Clock → ℕ → ℕ → ℕ
+deferrableOf k longest n =
+    ticksLeft (k .tbon) (k .tb * 1000 + k .remb) 65535999 longest (ticksLeft (k .taon) (k .ta * 100 + k .rema) 6553599 longest n)

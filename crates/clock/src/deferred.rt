@@ -1,41 +1,35 @@
-// Deferred ticks: several made at once, in which no timer passes its end.
+// Deferred ticks: several made at once, in which no timer passes its end but in the last.
 ghost use mathlib.Core.Path.{_≡_};
-ghost use mathlib.Core.Bool.{true, cond};
-ghost use Prim.Native.Nat.{_+_, _≤_};
+ghost use mathlib.Core.Bool.{true};
+ghost use Prim.Native.Nat.{_+_, _*_, _≤_, _<_};
 ghost use Rattle.clock.specs.Deferred.{Deferrable, afterTicks, ticksLeft, deferrableOf};
+use crate::time::elapse;
 use machine::Clock;
+use std::num::wrapping_add_u32;
 
-// A timer after n ticks, where it runs and does not pass its end.
-fn raised(on: bool, t: u16, n: u32) -> u16
-    requires { ⌜ (on ≡ true → t + n ≤ 65535) ⌝ }
-    ensures { λ r. ⌜ r ≡ cond on (t + n) t ⌝ }
+// The clock after n ticks of so many tenths together, fewer than 2^48.
+pub fn tick_by(clock: Clock, n: u32, tenths: u64) -> Clock
+    requires { ⌜ tenths < 281474976710656 ⌝ }
+    ensures { λ r. ⌜ r ≡ afterTicks n tenths clock ⌝ }
 {
-    if on {
-        return (t as u32 + n) as u16;
+    if n == 0 {
+        return clock;
     }
+    let mut t = elapse(clock, tenths);
+    t.count = wrapping_add_u32(clock.count, n);
     t
 }
 
-// The clock after n ticks. Callers know that they can be deferred.
-pub fn tick_by(clock: Clock, n: u32) -> Clock
-    requires { ⌜ Deferrable n clock ⌝ }
-    ensures { λ r. ⌜ r ≡ afterTicks n clock ⌝ }
-{
-    let count = clock.count + n;
-    let tens = count / 10 - clock.count / 10;
-    let mut t = clock;
-    t.ta = raised(clock.taon, clock.ta, n);
-    t.tb = raised(clock.tbon, clock.tb, tens);
-    t.count = count;
-    t
-}
-
-// At most n ticks in which a timer at t does not pass its end.
-fn ticks_left(on: bool, t: u16, n: u32) -> u32
-    ensures { λ r. ⌜ (r ≡ ticksLeft on t n) × (r ≤ n) × (on ≡ true → t + r ≤ 65535) ⌝ }
+// At most n ticks of at most `longest` tenths in which a timer that is t tenths after 0000, where it runs, does not pass `end`.
+fn ticks_left(on: bool, t: u32, end: u32, longest: u32, n: u32) -> u32
+    requires { ⌜ 0 < longest ⌝ }
+    ensures { λ r. ⌜ (r ≡ ticksLeft on t end longest n) × (r ≤ n) × (on ≡ true → 0 < r → t + longest * r ≤ end) ⌝ }
 {
     if on {
-        let most = 65535 - t as u32;
+        if end < t {
+            return 0;
+        }
+        let most = (end - t) / longest;
         if most < n {
             return most;
         }
@@ -43,15 +37,13 @@ fn ticks_left(on: bool, t: u16, n: u32) -> u32
     n
 }
 
-// At most n ticks that can be deferred.
-pub fn deferrable(clock: Clock, n: u32) -> u32
-    ensures { λ r. ⌜ (r ≡ deferrableOf clock n) × (r ≤ n) × Deferrable r clock ⌝ }
+// At most n ticks of at most `longest` tenths that can be deferred.
+pub fn deferrable(clock: Clock, longest: u32, n: u32) -> u32
+    requires { ⌜ 0 < longest ⌝ }
+    ensures { λ r. ⌜ (r ≡ deferrableOf clock longest n) × (r ≤ n) × (0 < r → Deferrable (longest * r) clock) ⌝ }
 {
-    let first = ticks_left(clock.taon, clock.ta, n);
-    let most = ticks_left(clock.tbon, clock.tb, first);
-    let end = 4294967295 - clock.count;
-    if end < most {
-        return end;
-    }
-    most
+    let a = clock.ta as u32 * 100 + clock.rema as u32;
+    let b = clock.tb as u32 * 1000 + clock.remb as u32;
+    let first = ticks_left(clock.taon, a, 6553599, longest, n);
+    ticks_left(clock.tbon, b, 65535999, longest, first)
 }

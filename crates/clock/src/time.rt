@@ -1,11 +1,11 @@
 // The core after a fault and with the hold mark cleared, and the clock at the end of a step (Scope, "One step", 2, 3 and 6).
 ghost use mathlib.Core.Path.{_≡_};
 ghost use mathlib.Core.Bool.{cond, _&&_};
-ghost use Prim.Native.Nat.{_%_};
+ghost use Prim.Native.Nat.{_+_, _≤_, _<_};
 ghost use lib.Bits.{bitOr};
-ghost use lib.Dec.{eqb};
+ghost use lib.Dec.{leb};
 ghost use Rattle.machine.specs.State.{withPi};
-ghost use Rattle.machine.specs.Step.{released, faulted, risen, elapsed, expired};
+ghost use Rattle.machine.specs.Step.{released, faulted, rises, remaining, risen, elapsed, expired};
 use machine::Clock;
 use machine::Core;
 use std::num::wrapping_add_u16;
@@ -40,22 +40,42 @@ pub fn pend(core: Core, bits: u16) -> Core
     t
 }
 
-// A timer, whether it rises or not.
-fn rise(on: bool, t: u16) -> u16
-    ensures { λ r. ⌜ r ≡ risen on t ⌝ }
+// How often a timer rises: by whole units of its remainder and of the tenths that pass.
+fn rise_count(unit: u64, remainder: u16, tenths: u64) -> u64
+    requires { ⌜ (0 < unit) × (tenths < 281474976710656) ⌝ }
+    ensures { λ r. ⌜ (r ≡ rises unit remainder tenths) × (r < 281474976776192) ⌝ }
+{
+    (remainder as u64 + tenths) / unit
+}
+
+// Its remainder after them, where it runs.
+fn remain(on: bool, unit: u64, remainder: u16, tenths: u64) -> u16
+    requires { ⌜ (0 < unit) × (unit ≤ 1000) × (tenths < 281474976710656) ⌝ }
+    ensures { λ r. ⌜ r ≡ remaining on unit remainder tenths ⌝ }
 {
     if on {
-        return wrapping_add_u16(t, 1);
+        return ((remainder as u64 + tenths) % unit) as u16;
+    }
+    remainder
+}
+
+// A timer that rises n times, where it runs.
+fn rise(on: bool, t: u16, n: u64) -> u16
+    ensures { λ r. ⌜ r ≡ risen on t n ⌝ }
+{
+    if on {
+        return wrapping_add_u16(t, (n % 65536) as u16);
     }
     t
 }
 
-// The weight of a PI bit where a timer passes FFFF to 0000, else 0.
-fn pass(on: bool, t: u16, weight: u16) -> u16
-    ensures { λ r. ⌜ r ≡ cond (on && eqb t 65535) weight 0 ⌝ }
+// The weight of a PI bit where it passes FFFF to 0000, else 0.
+fn pass(on: bool, t: u16, n: u64, weight: u16) -> u16
+    requires { ⌜ n < 281474976776192 ⌝ }
+    ensures { λ r. ⌜ r ≡ cond (on && leb 65536 (t + n)) weight 0 ⌝ }
 {
     if on {
-        if t == 65535 {
+        if 65536 <= t as u64 + n {
             return weight;
         }
         return 0;
@@ -63,33 +83,26 @@ fn pass(on: bool, t: u16, weight: u16) -> u16
     0
 }
 
-// A running timer B rises when the counter, as it rose, is a multiple of 10.
-fn rises_b(on: bool, count: u32) -> bool
-    ensures { λ r. ⌜ r ≡ (on && eqb (count % 10) 0) ⌝ }
+// The clock at the end of a step of so many tenths, fewer than 2^48: the counter, then the timers.
+pub fn elapse(clock: Clock, tenths: u64) -> Clock
+    requires { ⌜ tenths < 281474976710656 ⌝ }
+    ensures { λ r. ⌜ r ≡ elapsed tenths clock ⌝ }
 {
-    if on {
-        return count % 10 == 0;
-    }
-    false
-}
-
-// The clock at the end of a step: the counter, then the timers.
-pub fn elapse(clock: Clock) -> Clock
-    ensures { λ r. ⌜ r ≡ elapsed clock ⌝ }
-{
-    let count = wrapping_add_u32(clock.count, 1);
-    let on = rises_b(clock.tbon, count);
     let mut t = clock;
-    t.ta = rise(clock.taon, clock.ta);
-    t.tb = rise(on, clock.tb);
-    t.count = count;
+    t.ta = rise(clock.taon, clock.ta, rise_count(100, clock.rema, tenths));
+    t.tb = rise(clock.tbon, clock.tb, rise_count(1000, clock.remb, tenths));
+    t.rema = remain(clock.taon, 100, clock.rema, tenths);
+    t.remb = remain(clock.tbon, 1000, clock.remb, tenths);
+    t.count = wrapping_add_u32(clock.count, 1);
     t
 }
 
 // The PI bits of the timers that pass their end there.
-pub fn expire(clock: Clock) -> u16
-    ensures { λ r. ⌜ r ≡ expired clock ⌝ }
+pub fn expire(clock: Clock, tenths: u64) -> u16
+    requires { ⌜ tenths < 281474976710656 ⌝ }
+    ensures { λ r. ⌜ r ≡ expired tenths clock ⌝ }
 {
-    let on = rises_b(clock.tbon, wrapping_add_u32(clock.count, 1));
-    pass(clock.taon, clock.ta, 0x0100) | pass(on, clock.tb, 0x0040)
+    let a = rise_count(100, clock.rema, tenths);
+    let b = rise_count(1000, clock.remb, tenths);
+    pass(clock.taon, clock.ta, a, 0x0100) | pass(clock.tbon, clock.tb, b, 0x0040)
 }

@@ -7,7 +7,7 @@ use lib.ListN.{getD, replicate}
 use Rattle.choice.proofs.Rows.{Row, some, hold, flag}
 use Rattle.machine.specs.declared.State.{State}
 use Rattle.machine.specs.declared.Instruction.{Instruction}
-use Rattle.machine.specs.State.{withClock, withTbOn}
+use Rattle.machine.specs.State.{withClock, withRemB, withTbOn}
 use Rattle.machine.specs.Machine.{Supervised, done, refused}
 use Rattle.machine.proofs.Opened.{machinery}
 use Rattle.machine.proofs.Samples.{stateAt}
@@ -34,9 +34,9 @@ rows =
     some (shown (transferred s (replicate 512 0) (replicate 1024 0) n)) (0x0101 ∷ 0 ∷ 0 ∷ 7 ∷ []) (0x0101 ∷ 0 ∷ 7 ∷ 0 ∷ []) (0x0101 ∷ 7 ∷ 0 ∷ 0 ∷ [])
     -- timers::is_timer: 400B as a timer command; ITB as none
     ∷ some (flag (isTimer 0x400B) ∷ flag (isTimer 0xC00E) ∷ []) (0 ∷ 1 ∷ []) (1 ∷ 1 ∷ []) (0 ∷ 0 ∷ [])
-    -- timers::timer_command: OTB sets timer A; OTB leaves timer B halted
-    ∷ some (let t = timerCommand (withClock s (withTbOn (s .clock) false)) 1 0x400E .clock in t .ta ∷ t .tb ∷ flag (t .tbon) ∷ [])
-    (0 ∷ 7 ∷ 1 ∷ []) (7 ∷ 0 ∷ 0 ∷ []) (0 ∷ 7 ∷ 0 ∷ [])
+    -- timers::timer_command: OTB keeps its timer's remainder; OTB leaves timer B halted
+    ∷ some (let t = timerCommand (withClock s (withRemB (withTbOn (s .clock) false) 5)) 1 0x400E .clock in t .ta ∷ t .tb ∷ t .remb ∷ flag (t .tbon) ∷ [])
+    (0 ∷ 7 ∷ 0 ∷ 1 ∷ []) (0 ∷ 7 ∷ 5 ∷ 1 ∷ []) (0 ∷ 7 ∷ 0 ∷ 0 ∷ [])
     ∷ []
 
 pub rows-hold : T (hold rows)

@@ -2,7 +2,7 @@
 ghost use mathlib.Core.Path.{_≡_};
 ghost use Rattle.machine.specs.declared.State.{State};
 ghost use Rattle.machine.specs.declared.Core.{Core};
-ghost use Rattle.machine.specs.State.{joined, withProcessor, withClock, withTa, withTb, withTaOn, withTbOn};
+ghost use Rattle.machine.specs.State.{joined, withProcessor, withClock, withTa, withTb, withRemA, withRemB, withTaOn, withTbOn};
 ghost use Rattle.isa.specs.Commands.{isTimer, timerCommand};
 use addressing::fields::get;
 use addressing::fields::put;
@@ -25,22 +25,24 @@ pub fn is_timer(command: u16) -> bool
     }
 }
 
-// Timer A, and whether it runs.
-fn set_timer_a(clock: Clock, ta: u16, on: bool) -> Clock
-    ensures { λ r. ⌜ r ≡ withTaOn (withTa clock ta) on ⌝ }
+// Timer A, its remainder, and whether it runs.
+fn set_timer_a(clock: Clock, ta: u16, remainder: u16, on: bool) -> Clock
+    ensures { λ r. ⌜ r ≡ withTaOn (withRemA (withTa clock ta) remainder) on ⌝ }
 {
     let mut t = clock;
     t.ta = ta;
+    t.rema = remainder;
     t.taon = on;
     t
 }
 
-// Timer B, and whether it runs.
-fn set_timer_b(clock: Clock, tb: u16, on: bool) -> Clock
-    ensures { λ r. ⌜ r ≡ withTbOn (withTb clock tb) on ⌝ }
+// Timer B, its remainder, and whether it runs.
+fn set_timer_b(clock: Clock, tb: u16, remainder: u16, on: bool) -> Clock
+    ensures { λ r. ⌜ r ≡ withTbOn (withRemB (withTb clock tb) remainder) on ⌝ }
 {
     let mut t = clock;
     t.tb = tb;
+    t.remb = remainder;
     t.tbon = on;
     t
 }
@@ -51,12 +53,12 @@ pub fn timer_command(clock: Clock, regs: &mut [u16; 16], k: u16, command: u16) -
         ≡ timerCommand (withClock (withProcessor s (joined core (now (regs .entry)))) clock) k command) ⌝ }
 {
     match command {
-        0x4008 => set_timer_a(clock, clock.ta, true),
-        0x4009 => set_timer_a(clock, clock.ta, false),
-        0x400A => set_timer_a(clock, get(regs, k), true),
-        0x400C => set_timer_b(clock, clock.tb, true),
-        0x400D => set_timer_b(clock, clock.tb, false),
-        0x400E => set_timer_b(clock, get(regs, k), true),
+        0x4008 => set_timer_a(clock, clock.ta, clock.rema, true),
+        0x4009 => set_timer_a(clock, clock.ta, clock.rema, false),
+        0x400A => set_timer_a(clock, get(regs, k), 0, true),
+        0x400C => set_timer_b(clock, clock.tb, clock.remb, true),
+        0x400D => set_timer_b(clock, clock.tb, clock.remb, false),
+        0x400E => set_timer_b(clock, get(regs, k), 0, true),
         0xC00A => {
             put(regs, k, clock.ta);
             clock

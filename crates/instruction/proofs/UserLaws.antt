@@ -28,7 +28,7 @@ use Rattle.machine.specs.declared.Class.the-variants.{User}
 use Rattle.machine.specs.State.{keyOf, groupOf, Processor, joined, processor, withProcessor, withPi, withSw, withIc, advanced}
 use Rattle.machine.specs.Machine.{Became, Effect, spanFrom}
 use Rattle.machine.specs.Instructions.{affect, View, view, permitted, readyAt, redirected, derived, extended, granted, decoded, fetched, prepared, both}
-use Rattle.machine.specs.Step.{affected, stored, perform}
+use Rattle.machine.specs.Step.{affected, stored, perform, timedBy, timing}
 use Rattle.isa.specs.Fields.{fieldA, register}
 use Rattle.isa.specs.Addressing.{inMemory}
 use Rattle.isa.specs.Accesses.{wordsRead, wordsWritten, atOperand, readsOf, writesOf}
@@ -47,11 +47,11 @@ use Rattle.instruction_retired.proofs.RetiredLaws.{retired-lasting}
 -- ---- whether the choice of an interrupt stays
 
 -- a user's effect leaves it, as long as PI is what it was
-pub settled-by : (c d : Core) (v : Retired) (regs regs' : List ℕ) (e : Effect) → v ≡ retiredWith (eqb (d .pi) (c .pi)) d
-    → joined d regs' ≡ affected (joined c regs) e → Lasting c v
+pub settled-by : (c d : Core) (v : Retired) (regs regs' : List ℕ) (e : Effect) (n : ℕ) → v ≡ retiredWith (eqb (d .pi) (c .pi)) d
+    → joined d regs' ≡ affected (joined c regs) e → Lasting c n v
 unfolding affected withPi withSw withIc
-settled-by c d v regs regs' e i h =
-    rw i (retired-lasting c d (eqb (d .pi) (c .pi)) (λ k. record {
+settled-by c d v regs regs' e n i h =
+    rw i (retired-lasting c d n (eqb (d .pi) (c .pi)) (λ k. record {
       pi-kept = eqb-true (d .pi) (c .pi) k;
       mk-kept = ap (λ (p : Processor). p .core .mk) h;
       enabled-kept = ap (λ (p : Processor). p .core .enabled) h;
@@ -69,46 +69,57 @@ module _ (p : Processor) (m g : List ℕ) (key group : ℕ) (d : key ≡ keyOf (
   unfolding prepared fetched gotAt mil1750
   prepared-at a h = rw (← d, ← e, ← i, h) refl
 
+  pub timing-at : (a : ℕ) → q ≡ At a → timing (p .core) (view (p .core) m g) false ≡ timedBy (Word (getD m a 0))
+  unfolding timing gotAt
+  timing-at a h = rw (← d, ← e, ← i, h) refl
+
   -- it was refused
+  pub timing-refused : (b : ℕ) → q ≡ Refused b → timing (p .core) (view (p .core) m g) false ≡ 256
+  unfolding timing timedBy gotAt
+  timing-refused b h = rw (← d, ← e, ← i, h) refl
+
   pub prepared-refused : (b : ℕ) → q ≡ Refused b → prepared mil1750 p (view (p .core) m g) ≡ Denied b (wrapped (p .core .ic + 1))
   unfolding prepared fetched gotAt mil1750 advanced
   prepared-refused b h = rw (← d, ← e, ← i, h) refl
 
--- the form of an instruction that is ready, and f of one that is not
-abbrev formed : ℕ → Prepared → ℕ
-formed f (Ready n) = n .form
-formed f (Denied b a) = f
+-- the form and the first word of an instruction that is ready, and d of one that is not
+abbrev formed : ℕ × ℕ → Prepared → ℕ × ℕ
+formed d (Ready n) = (n .form, n .first)
+formed d (Denied b a) = d
 
--- one that is ready has the form that it was prepared by
+-- one that is ready has the form and the first word that it was prepared by
 module _ (p : Processor) (v : View) where
-  redirected-formed : (f w x : ℕ) (got : Got) → formed f (redirected (p .core) f w x got) ≡ f
+  redirected-formed : (f w x : ℕ) (got : Got) → formed (f, w) (redirected (p .core) f w x got) ≡ (f, w)
   unfolding redirected readyAt
   redirected-formed f w x (Word a) = refl
   redirected-formed f w x (Missed b) = refl
 
-  derived-formed : (f w x : ℕ) (b : Bool) → formed f (derived mil1750 p v f w x b) ≡ f
+  derived-formed : (f w x : ℕ) (b : Bool) → formed (f, w) (derived mil1750 p v f w x b) ≡ (f, w)
   unfolding derived readyAt
   derived-formed f w x false = refl
   derived-formed f w x true = redirected-formed f w x (v .read (mil1750 .base (modeOf f) p w x))
 
-  extended-formed : (f w : ℕ) (got : Got) → formed f (extended mil1750 p v f w got) ≡ f
+  extended-formed : (f w : ℕ) (got : Got) → formed (f, w) (extended mil1750 p v f w got) ≡ (f, w)
   unfolding extended
   extended-formed f w (Word x) = derived-formed f w x (eqb (modeOf f) 7)
   extended-formed f w (Missed b) = refl
 
-  granted-formed : (f w : ℕ) (a b : Bool) → formed f (granted mil1750 p v f w a b) ≡ f
+  granted-formed : (f w : ℕ) (a b : Bool) → formed (f, w) (granted mil1750 p v f w a b) ≡ (f, w)
   unfolding granted
   granted-formed f w false b = refl
   granted-formed f w true false = derived-formed f w 0 (eqb (modeOf f) 7)
   granted-formed f w true true = extended-formed f w (v .fetch (advanced (p .core) 1))
 
-  decoded-formed : (f w : ℕ) (b : Bool) → formed f (decoded mil1750 p v f w b) ≡ f
+  decoded-formed : (f w : ℕ) (b : Bool) → formed (f, w) (decoded mil1750 p v f w b) ≡ (f, w)
   unfolding decoded
   decoded-formed f w true = refl
   decoded-formed f w false = granted-formed f w (permitted (mil1750 .class (operationOf f)) (keyOf (p .core .sw))) (eqb (lengthOf f) 2)
 
   pub ready-form : (f w : ℕ) (b : Bool) (n : Instruction) → decoded mil1750 p v f w b ≡ Ready n → n .form ≡ f
-  ready-form f w b n h = sym (ap (formed f) h) ∙ decoded-formed f w b
+  ready-form f w b n h = ap (λ (d : ℕ × ℕ). d .0) (sym (ap (formed (f, w)) h) ∙ decoded-formed f w b)
+
+  pub ready-first : (f w : ℕ) (b : Bool) (n : Instruction) → decoded mil1750 p v f w b ≡ Ready n → n .first ≡ w
+  ready-first f w b n h = ap (λ (d : ℕ × ℕ). d .1) (sym (ap (formed (f, w)) h) ∙ decoded-formed f w b)
 
 -- ---- a user's operation
 

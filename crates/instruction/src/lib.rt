@@ -3,15 +3,16 @@
 ghost use mathlib.Core.Path.{_≡_};
 ghost use mathlib.Core.Bool.{true, false};
 ghost use mathlib.Core.List.{List};
-ghost use Prim.Native.Nat.{ℕ, _≤_, _<_};
+ghost use Prim.Native.Nat.{ℕ, _+_, _/_, _≤_, _<_};
 ghost use lib.Dec.{eqb};
-ghost use lib.ListN.{length};
+ghost use lib.ListN.{length, getD};
 ghost use Rattle.page.specs.Pages.{lookup};
 ghost use Rattle.page.specs.Spans.{checked, wordsOf};
 ghost use Rattle.decode.specs.Forms.{operationOf};
 ghost use Rattle.decode.specs.Decode.{decodeOf};
 ghost use Rattle.machine.specs.State.{keyOf, groupOf, Keyed, processor};
 ghost use Rattle.machine.specs.Instructions as spec;
+ghost use Rattle.machine.specs.Step.{timing};
 ghost use Rattle.isa.specs.Accesses.{readsOf, writesOf};
 ghost use Rattle.isa.specs.Mil1750.{mil1750};
 ghost use Rattle.form_table.specs.FormNumbers.{pathOf, noPath, numberOf, numbers};
@@ -20,6 +21,8 @@ ghost use Rattle.operand_words.specs.Gathers.{FirstThree};
 ghost use Rattle.instruction_retired.specs.Settled.{carrying, obeying, Performed};
 use block_one_page::here::try_block;
 use block_words::block;
+use clock::durations::duration_of;
+use clock::durations::entry_duration;
 use execute::work;
 use fast::fast;
 use form_table::decode_with;
@@ -78,7 +81,7 @@ fn carry_words(
 ) -> Retired
     requires { ⌜ (length (now pages) ≡ 512) × (isBlock (operationOf (n .form)) ≡ true) ⌝ }
     ensures { λ r. ⌜ ((ports : List ℕ) → Performed (carrying n) core (now (regs .entry)) (now (memory .entry)) (now (pages .entry)) ports
-        r (now (regs .exit)) (now (memory .exit)) (now (pages .entry)) ports) ⌝ }
+        (n .first / 256) r (now (regs .exit)) (now (memory .exit)) (now (pages .entry)) ports) ⌝ }
 {
     let from = reads(regs, n);
     let to = writes(regs, n);
@@ -101,7 +104,7 @@ fn carry_block(
 ) -> Retired
     requires { ⌜ (length (now pages) ≡ 512) × (isBlock (operationOf (n .form)) ≡ true) × Keyed (core .sw) key group ⌝ }
     ensures { λ r. ⌜ ((ports : List ℕ) → Performed (carrying n) core (now (regs .entry)) (now (memory .entry)) (now (pages .entry)) ports
-        r (now (regs .exit)) (now (memory .exit)) (now (pages .entry)) ports) ⌝ }
+        (n .first / 256) r (now (regs .exit)) (now (memory .exit)) (now (pages .entry)) ports) ⌝ }
 {
     let tried = try_block(core, key, group, regs, memory, pages, n);
     if tried.done {
@@ -127,7 +130,7 @@ fn proceed(
         × (number ≡ numberOf (n .form)) × (pathOf (operationOf (n .form)) ≡ noPath) ⌝ }
     ensures { λ r. ⌜ ((ports : List ℕ) → Performed (λ m g o s. spec.accessed mil1750 s g o (spec.view (s .core) m g) n
         (checked (keyOf (s .core .sw)) (groupOf (s .core .sw)) g (length m) (writesOf (s .regs) n) Access.Write))
-        core (now (regs .entry)) (now (memory .entry)) (now (pages .entry)) ports r (now (regs .exit)) (now (memory .exit)) (now (pages .entry)) ports) ⌝ }
+        core (now (regs .entry)) (now (memory .entry)) (now (pages .entry)) ports (n .first / 256) r (now (regs .exit)) (now (memory .exit)) (now (pages .entry)) ports) ⌝ }
 {
     let to = span_from(write_start(regs, n, number), write_count(n, number));
     let verdict = check_span(Access::Write, key, group, pages, memory.len(), to);
@@ -154,7 +157,7 @@ fn carry_fast(
     requires { ⌜ (length (now pages) ≡ 512) × Keyed (core .sw) key group
         × (number ≡ numberOf (n .form)) × (0x0080_0000 ≤ number) × (number < 0x0300_0000) ⌝ }
     ensures { λ r. ⌜ ((ports : List ℕ) → Performed (carrying n) core (now (regs .entry)) (now (memory .entry)) (now (pages .entry)) ports
-        r (now (regs .exit)) (now (memory .exit)) (now (pages .entry)) ports) ⌝ }
+        (n .first / 256) r (now (regs .exit)) (now (memory .exit)) (now (pages .entry)) ports) ⌝ }
 {
     let end = fast(core, key, group, regs, memory, pages, n, number);
     if end.clear {
@@ -177,7 +180,7 @@ fn carry_ordinary(
     requires { ⌜ (length (now pages) ≡ 512) × Keyed (core .sw) key group × (number ≡ numberOf (n .form))
         × (isBlock (operationOf (n .form)) ≡ false) × (pathOf (operationOf (n .form)) ≡ noPath) ⌝ }
     ensures { λ r. ⌜ ((ports : List ℕ) → Performed (carrying n) core (now (regs .entry)) (now (memory .entry)) (now (pages .entry)) ports
-        r (now (regs .exit)) (now (memory .exit)) (now (pages .entry)) ports) ⌝ }
+        (n .first / 256) r (now (regs .exit)) (now (memory .exit)) (now (pages .entry)) ports) ⌝ }
 {
     let from = read_start(regs, n, number);
     let g = gather(key, group, memory, pages, from, read_count(n, number));
@@ -201,7 +204,7 @@ fn carry(
 ) -> Retired
     requires { ⌜ (length (now pages) ≡ 512) × (length (now ports) ≡ 1024) × Keyed (core .sw) key group × (number ≡ numberOf (n .form)) ⌝ }
     ensures { λ r. ⌜ Performed (carrying n) core (now (regs .entry)) (now (memory .entry)) (now (pages .entry)) (now (ports .entry))
-        r (now (regs .exit)) (now (memory .exit)) (now (pages .exit)) (now (ports .exit)) ⌝ }
+        (n .first / 256) r (now (regs .exit)) (now (memory .exit)) (now (pages .exit)) (now (ports .exit)) ⌝ }
 {
     match number {
         // the most frequent operations, from 0x0080_0000 on
@@ -236,7 +239,7 @@ fn begin(
         × (lookup Access.Fetch key group (now pages) (length (now memory)) (core .ic) ≡ Place.At at) ⌝ }
     ensures { λ r. ⌜ Performed (λ m g o s. spec.carried mil1750 s g o (spec.view (s .core) m g)
         (spec.decoded mil1750 (processor s) (spec.view (s .core) m g) (decodeOf w) w (eqb (decodeOf w) 0)))
-        core (now (regs .entry)) (now (memory .entry)) (now (pages .entry)) (now (ports .entry)) r (now (regs .exit)) (now (memory .exit)) (now (pages .exit)) (now (ports .exit)) ⌝ }
+        core (now (regs .entry)) (now (memory .entry)) (now (pages .entry)) (now (ports .entry)) (w / 256) r (now (regs .exit)) (now (memory .exit)) (now (pages .exit)) (now (ports .exit)) ⌝ }
 {
     let prepared = prepare(core, key, group, regs, memory, pages, number, w, at);
     match prepared {
@@ -245,7 +248,8 @@ fn begin(
     }
 }
 
-// The instruction at IC, from a core whose hold mark is clear. The table is that of form numbers, made once a run.
+// The instruction at IC, from a core whose hold mark is clear. Its duration is added to the tenths that are spent, fewer than 2^48 so far. The table is that of form numbers,
+// made once a run.
 pub fn instruct(
     core: Core,
     key: u16,
@@ -255,18 +259,26 @@ pub fn instruct(
     pages: &mut [u16],
     ports: &mut [u16],
     table: &[u32; 256],
+    durations: &[u16],
+    spent: &mut u64,
 ) -> Retired
-    requires { ⌜ (length (now pages) ≡ 512) × (length (now ports) ≡ 1024) × (now table ≡ numbers) × Keyed (core .sw) key group ⌝ }
+    requires { ⌜ (length (now pages) ≡ 512) × (length (now ports) ≡ 1024) × (now table ≡ numbers) × Keyed (core .sw) key group
+        × (length (now durations) ≡ 257) × (now spent < 281474976710656) ⌝ }
     ensures { λ r. ⌜ Performed obeying core (now (regs .entry)) (now (memory .entry)) (now (pages .entry)) (now (ports .entry))
-        r (now (regs .exit)) (now (memory .exit)) (now (pages .exit)) (now (ports .exit)) ⌝ }
+        (timing core (spec.view core (now (memory .entry)) (now (pages .entry))) false) r (now (regs .exit)) (now (memory .exit)) (now (pages .exit)) (now (ports .exit))
+        × (now (spent .exit) ≡ now (spent .entry) + getD (now (durations .entry)) (timing core (spec.view core (now (memory .entry)) (now (pages .entry))) false) 0) ⌝ }
 {
     let first = look_up(Access::Fetch, key, group, pages, memory.len(), core.ic);
     match first {
         Place::At(at) => {
             let w = memory[at];
+            *spent = *spent + duration_of(durations, w);
             let number = decode_with(table, w);
             begin(core, key, group, regs, memory, pages, ports, number, w, at)
         }
-        Place::Refused(b) => deny(core, b, advance(core.ic, 1)),
+        Place::Refused(b) => {
+            *spent = *spent + entry_duration(durations);
+            deny(core, b, advance(core.ic, 1))
+        }
     }
 }

@@ -28,12 +28,12 @@ timer-commanded s g o n ra command h =
     among-every (λ c. commanded s g o n ra c ≡ becomes g o (timerCommand s (fieldA (n .first)) c))
     (map (λ r. r .0) timerRules) (refl, (refl, (refl, (refl, (refl, (refl, (refl, (refl, tt)))))))) command h
 
--- k is the register that the instruction names, d the core at the next instruction
-pub timer-became : (s : State) (m g o : List ℕ) (n : Instruction) (k : ℕ) (d : Core) → isTimer (n .address) ≡ true → k ≡ fieldA (n .first) → d ≡ resumed (s .core) n
-    → Became (perform s m g o (supervised n (transferred s g o n))) (timerCommand (withCore s d) k (n .address)) m g o
+-- d is the core at the next instruction
+pub timer-became : (s : State) (m g o : List ℕ) (n : Instruction) (d : Core) → isTimer (n .address) ≡ true → d ≡ resumed (s .core) n
+    → Became (perform s m g o (supervised n (transferred s g o n))) (timerCommand (withCore s d) (fieldA (n .first)) (n .address)) m g o
 unfolding supervised perform becomes
-timer-became s m g o n k d h e f =
-    rw (timer-commanded (withCore s (resumed (s .core) n)) g o n _ (n .address) h, e, f)
+timer-became s m g o n d h f =
+    rw (timer-commanded (withCore s (resumed (s .core) n)) g o n _ (n .address) h, f)
     (record { state-is = refl; memory-is = refl; pages-is = refl; ports-is = refl })
 
 -- ---- any other, done or refused

@@ -3,7 +3,7 @@
 ghost use mathlib.Core.Path.{_≡_};
 ghost use mathlib.Core.Bool.{false};
 ghost use mathlib.Core.List.{List};
-ghost use Prim.Native.Nat.{ℕ, _<_};
+ghost use Prim.Native.Nat.{ℕ, _/_, _<_};
 ghost use lib.ListN.{length};
 ghost use Rattle.decode.specs.Forms.{operationOf};
 ghost use Rattle.machine.specs.declared.State.{State};
@@ -14,7 +14,6 @@ ghost use Rattle.machine.specs.Step.{perform};
 ghost use Rattle.isa.specs.Commands.{isTimer, transferred};
 ghost use Rattle.form_table.specs.FormNumbers.{pathOf, xioPath, bexPath, lstPath, numberOf};
 ghost use Rattle.instruction_retired.specs.Settled.{carrying, Performed};
-use addressing::fields::field_a;
 use clock::time::fault;
 use command::Governed;
 use command::timers::is_timer;
@@ -62,13 +61,13 @@ pub fn command(
 ) -> Retired
     requires { ⌜ (length (now pages) ≡ 512) × (length (now ports) ≡ 1024) × (pathOf (operationOf (n .form)) ≡ xioPath) ⌝ }
     ensures { λ r. ⌜ ((memory : List ℕ) → Performed (carrying n) core (now (regs .entry)) memory (now (pages .entry)) (now (ports .entry))
-        r (now (regs .exit)) memory (now (pages .exit)) (now (ports .exit))) ⌝ }
+        (n .first / 256) r (now (regs .exit)) memory (now (pages .exit)) (now (ports .exit))) ⌝ }
 {
     if is_timer(n.address) {
         return Retired {
             settled: false,
             command: n.address,
-            ra: field_a(n.first),
+            first: n.first,
             core: resume(core, n),
         };
     }
@@ -92,7 +91,7 @@ fn call(core: Core, memory: &mut [u16], pages: &[u16], k: u16) -> Core
 pub fn executive(core: Core, memory: &mut [u16], pages: &[u16], n: Instruction) -> Retired
     requires { ⌜ (length (now pages) ≡ 512) × (pathOf (operationOf (n .form)) ≡ bexPath) ⌝ }
     ensures { λ r. ⌜ ((regs ports : List ℕ) → Performed (carrying n) core regs (now (memory .entry)) (now (pages .entry)) ports
-        r regs (now (memory .exit)) (now (pages .entry)) ports) ⌝ }
+        (n .first / 256) r regs (now (memory .exit)) (now (pages .entry)) ports) ⌝ }
 {
     unsettled(call(core, memory, pages, n.first % 16))
 }
@@ -111,7 +110,7 @@ pub fn load(
     requires { ⌜ (length (now pages) ≡ 512) × Keyed (core .sw) key group × (pathOf (operationOf (n .form)) ≡ lstPath)
         × (number ≡ numberOf (n .form)) ⌝ }
     ensures { λ r. ⌜ ((ports : List ℕ) → Performed (carrying n) core (now (regs .entry)) (now (memory .entry)) (now (pages .entry)) ports
-        r (now (regs .entry)) (now (memory .entry)) (now (pages .entry)) ports) ⌝ }
+        (n .first / 256) r (now (regs .entry)) (now (memory .entry)) (now (pages .entry)) ports) ⌝ }
 {
     let words = read_operand(key, group, memory, pages, n, number);
     if words.clear {

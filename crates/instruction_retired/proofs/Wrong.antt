@@ -13,9 +13,9 @@ use Rattle.instruction_retired.specs.Settled.{retiredWith}
 abbrev c : Core
 c = record { ic = 0x0100; sw = 0; mk = 0; pi = 0x0400; ft = 0x0100; enabled = true; hold = false }
 
--- settled, the timer command and its register; IC, PI and FT of the core
+-- settled, the timer command and its first word; IC, PI and FT of the core
 abbrev shown : Retired → List ℕ
-shown v = flag (v .settled) ∷ v .command ∷ v .ra ∷ v .core .ic ∷ v .core .pi ∷ v .core .ft ∷ []
+shown v = flag (v .settled) ∷ v .command ∷ v .first ∷ v .core .ic ∷ v .core .pi ∷ v .core .ft ∷ []
 
 pub rows : List Row
 unfolding machinery

@@ -9,11 +9,11 @@ use clock::time::fault;
 use machine::Core;
 
 // The core after an instruction. Where it is settled, no other interrupt is to be chosen than before, by the same key and address state; it does not
-// have to be (`Lasting`). A timer command, with the number of the register that is its RA, is handed back undone: an instruction has no clock. 0 is none.
+// have to be (`Lasting`). A timer command, with the first word of its instruction, is handed back undone: an instruction has no clock. 0 is none.
 pub struct Retired {
     pub settled: bool,
     pub command: u16,
-    pub ra: u16,
+    pub first: u16,
     pub core: Core,
 }
 
@@ -24,7 +24,7 @@ pub fn unsettled(core: Core) -> Retired
     Retired {
         settled: false,
         command: 0,
-        ra: 0,
+        first: 0,
         core,
     }
 }
@@ -36,7 +36,7 @@ pub fn weighed(pi: u16, core: Core) -> Retired
     Retired {
         settled: core.pi == pi,
         command: 0,
-        ra: 0,
+        first: 0,
         core,
     }
 }

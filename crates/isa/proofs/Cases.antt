@@ -5,14 +5,15 @@ use mathlib.Core.Bool.{Bool, true, false}
 use mathlib.Core.List.{List, [], _∷_}
 use lib.Dec.{T}
 use lib.ListN.{replicate, set}
-use Rattle.choice.proofs.Rows.{allOf}
+use Rattle.choice.proofs.Rows.{allOf, equal}
 use Rattle.machine.specs.declared.State.{State}
 use Rattle.machine.specs.declared.Clock.{Clock}
 use Rattle.machine.specs.Machine.{Machine, machine}
 use Rattle.machine.specs.State.{withCore, withClock, withMk, withPi, withFt, withHold}
 use Rattle.machine.specs.Step.{step}
+use Rattle.machine.specs.Runs.{runOf, steps, afterRuns}
 use Rattle.machine.proofs.Opened.{machinery}
-use Rattle.machine.proofs.Samples.{resetPages, stateAt, stepsOn, sameMachine}
+use Rattle.machine.proofs.Samples.{resetPages, hundreds, stateAt, stepsOn, sameMachine}
 use Rattle.isa.specs.Mil1750.{mil1750}
 use Rattle.isa.proofs.OpenWords.{words}
 use Rattle.isa.proofs.OpenFloats.{floats}
@@ -153,16 +154,16 @@ holding c s stored = machine s (with stored (with (c .memory) (replicate 8192 0)
 -- the machine after the step is what the row says; counter and timers have run on
 unfoldable pub right : Case → Bool
 right c =
-    let x = step mil1750 (holding c (stateOf (c .regs) 0 (c .sw) (c .pi) (c .ft)) []) in
+    let x = step mil1750 hundreds (holding c (stateOf (c .regs) 0 (c .sw) (c .pi) (c .ft)) []) in
     sameMachine x (holding c (stepsOn 1 (masked (stateOf (c .regs') (c .ic') (c .sw') (c .pi') (c .ft')) (c .mk') (c .hold'))) (c .memory'))
 
 pub cases-hold : T (allOf right cases)
 unfolding words floats decoder machinery instructions with cases right
 cases-hold = tt
 
--- ---- the timer commands: XIO with RA R1
+-- ---- the timer commands: XIO with RA R1, in a step of 250 tenths
 
--- the command, the clock and R1 before the step, whose tick makes the counter 10; then the clock, R1 and PI
+-- the command, the clock and R1 before the step; then the clock, R1 and PI
 pub record Timed : Type 0 where
   pub command : ℕ
   pub clock : Clock
@@ -171,29 +172,34 @@ pub record Timed : Type 0 where
   pub ra' : ℕ
   pub pi' : ℕ
 
--- timers A and B, with their running marks, and the counter
-abbrev pub clockOf : ℕ → Bool → ℕ → Bool → ℕ → Clock
-clockOf ta taon tb tbon count = record { ta = ta; tb = tb; taon = taon; tbon = tbon; count = count }
+-- a timer, its remainder, and whether it runs
+abbrev pub Timer : Type 0
+Timer = ℕ × ℕ × Bool
 
--- a command from timers A and B with their marks and R1 to others, and PI
-abbrev pub timed : ℕ → ℕ → Bool → ℕ → Bool → ℕ → ℕ → Bool → ℕ → Bool → ℕ → ℕ → Timed
-timed command ta taon tb tbon ra ta' taon' tb' tbon' ra' pi' =
-    record { command = command; clock = clockOf ta taon tb tbon 9; ra = ra; clock' = clockOf ta' taon' tb' tbon' 10; ra' = ra'; pi' = pi' }
+-- timers A and B, and the counter
+abbrev pub clockOf : Timer → Timer → ℕ → Clock
+clockOf a b count = record { ta = a .0; tb = b .0; rema = a .1; remb = b .1; taon = a .2; tbon = b .2; count = count }
+
+-- a command from timers A and B and R1 to others, and PI
+abbrev pub timed : ℕ → Timer → Timer → ℕ → Timer → Timer → ℕ → ℕ → Timed
+timed command a b ra a' b' ra' pi' = record { command = command; clock = clockOf a b 9; ra = ra; clock' = clockOf a' b' 10; ra' = ra'; pi' = pi' }
 
 unfoldable pub timers : List Timed
 timers =
-    -- TAS, TBS: a timer that is started rises at the end of the same step, B to its end
-    timed 0x4008 5 false 7 true 0x1234 6 true 8 true 0x1234 0x0000 ∷
-    timed 0x400C 5 false 0xFFFF false 0x1234 5 false 0 true 0x1234 0x0040 ∷
-    -- TAH, TBH: a timer that is halted at FFFF stays there
-    timed 0x4009 0xFFFF true 7 true 0x1234 0xFFFF false 8 true 0x1234 0x0000 ∷
-    timed 0x400D 5 true 0xFFFF true 0x1234 6 true 0xFFFF false 0x1234 0x0000 ∷
-    -- OTA, OTB: a timer that is set starts and rises, A from FFFF to its end
-    timed 0x400A 5 false 7 true 0xFFFF 0 true 8 true 0xFFFF 0x0100 ∷
-    timed 0x400E 5 true 7 false 0x0010 6 true 0x0011 true 0x0010 0x0000 ∷
+    -- TAS, TBS: a timer that is started counts the whole step, with the remainder that it had; B passes its end
+    timed 0x4008 (5, 60, false) (7, 800, true) 0x1234 (8, 10, true) (8, 50, true) 0x1234 0x0000 ∷
+    timed 0x4008 (5, 60, true) (7, 800, true) 0x1234 (8, 10, true) (8, 50, true) 0x1234 0x0000 ∷
+    timed 0x400C (5, 60, false) (0xFFFF, 800, false) 0x1234 (5, 60, false) (0, 50, true) 0x1234 0x0040 ∷
+    -- TAH, TBH: a timer that is halted counts nothing of the step, and keeps its remainder
+    timed 0x4009 (0xFFFF, 99, true) (7, 800, true) 0x1234 (0xFFFF, 99, false) (8, 50, true) 0x1234 0x0000 ∷
+    timed 0x400D (5, 60, true) (0xFFFF, 999, true) 0x1234 (8, 10, true) (0xFFFF, 999, false) 0x1234 0x0000 ∷
+    -- OTA, OTB: a timer that is set starts, without its remainder; the other keeps its own. A passes its end
+    timed 0x400A (5, 99, true) (7, 800, true) 0xFFFF (1, 50, true) (8, 50, true) 0xFFFF 0x0100 ∷
+    timed 0x400A (5, 99, false) (7, 700, false) 0x0010 (0x0012, 50, true) (7, 700, false) 0x0010 0x0000 ∷
+    timed 0x400E (5, 60, true) (7, 999, false) 0x0010 (8, 10, true) (0x0010, 250, true) 0x0010 0x0000 ∷
     -- ITA, ITB: the timer before it rises
-    timed 0xC00A 5 true 7 true 0x1234 6 true 8 true 0x0005 0x0000 ∷
-    timed 0xC00E 5 true 7 true 0x1234 6 true 8 true 0x0007 0x0000 ∷
+    timed 0xC00A (5, 60, true) (7, 800, true) 0x1234 (8, 10, true) (8, 50, true) 0x0005 0x0000 ∷
+    timed 0xC00E (5, 60, true) (7, 800, true) 0x1234 (8, 10, true) (8, 50, true) 0x0007 0x0000 ∷
     []
 
 -- XIO R1 and the command at 0
@@ -202,9 +208,83 @@ ticking c s = machine s (with ((0, 0x4810) ∷ (1, c .command) ∷ []) (replicat
 
 unfoldable pub kept : Timed → Bool
 kept c =
-    sameMachine (step mil1750 (ticking c (withClock (stateOf ((1, c .ra) ∷ []) 0 0 0 0) (c .clock))))
+    sameMachine (step mil1750 (set (replicate 257 0) 0x48 250) (ticking c (withClock (stateOf ((1, c .ra) ∷ []) 0 0 0 0) (c .clock))))
     (ticking c (withClock (stateOf ((1, c .ra') ∷ []) 2 0 (c .pi') 0) (c .clock')))
 
 pub timers-hold : T (allOf kept timers)
 unfolding words floats decoder machinery instructions with timers kept
 timers-hold = tt
+
+-- ---- steps with durations of their own
+
+-- words of the memory, of the page registers and of R0 to R15; IC, SW, PI; timers A and B
+abbrev pub from : Words → Words → Words → ℕ → ℕ → ℕ → Timer → Timer → Machine
+from memory pages regs ic sw pi a b =
+    machine (withClock (stateOf regs ic sw pi 0) (clockOf a b 0)) (with memory (replicate 8192 0)) (with pages resetPages) (replicate 1024 0)
+
+-- after reset, with words of the memory
+abbrev pub fresh : Words → Machine
+fresh memory = from memory [] [] 0 0 0 (0, 0, true) (0, 0, true)
+
+-- IC, PI, FT, and each timer with its remainder
+abbrev pub shown : Machine → List ℕ
+shown x = let s = x .state in s .core .ic ∷ s .core .pi ∷ s .core .ft ∷ s .clock .ta ∷ s .clock .rema ∷ s .clock .tb ∷ s .clock .remb ∷ []
+
+-- a machine, durations, a number of steps: what is shown after them
+pub record Lasted : Type 0 where
+  pub start : Machine
+  pub durations : List ℕ
+  pub count : ℕ
+  pub end : List ℕ
+
+abbrev pub lasted : Machine → List ℕ → ℕ → List ℕ → Lasted
+lasted x d n r = record { start = x; durations = d; count = n; end = r }
+
+-- all 0 but for these
+abbrev pub only : Words → List ℕ
+only d = with d (replicate 257 0)
+
+-- five NOP, then OTB of R1
+abbrev pub setting : Machine
+setting = from ((0, 0xFF00) ∷ (1, 0xFF00) ∷ (2, 0xFF00) ∷ (3, 0xFF00) ∷ (4, 0xFF00) ∷ (5, 0x4810) ∷ (6, 0x400E) ∷ []) [] ((1, 7) ∷ []) 0 0 0 (0, 0, true) (0, 0, true)
+
+unfoldable pub timedSteps : List Lasted
+timedSteps =
+    -- 100 tenths each: A rises with each step, B with each tenth one
+    lasted (fresh []) hundreds 10 (10 ∷ 0 ∷ 0 ∷ 10 ∷ 0 ∷ 1 ∷ 0 ∷ []) ∷
+    lasted (fresh []) hundreds 15 (15 ∷ 0 ∷ 0 ∷ 15 ∷ 0 ∷ 1 ∷ 500 ∷ []) ∷
+    lasted (fresh []) (only ((0x00, 37) ∷ [])) 3 (3 ∷ 0 ∷ 0 ∷ 1 ∷ 11 ∷ 0 ∷ 111 ∷ []) ∷
+    lasted (fresh []) (only ((0x00, 37) ∷ [])) 28 (28 ∷ 0 ∷ 0 ∷ 10 ∷ 36 ∷ 1 ∷ 36 ∷ []) ∷
+    -- the first word is refused; it is illegal; it is privileged; the second word is refused
+    lasted (from [] ((0, 0x0800) ∷ []) [] 0 0 0 (0, 0, true) (0, 0, true)) (only ((256, 250) ∷ [])) 1 (1 ∷ 0x4000 ∷ 0x8000 ∷ 2 ∷ 50 ∷ 0 ∷ 250 ∷ []) ∷
+    lasted (fresh ((0, 0xFE00) ∷ [])) (only ((0xFE, 30) ∷ (256, 999) ∷ [])) 1 (1 ∷ 0x4000 ∷ 0x0040 ∷ 0 ∷ 30 ∷ 0 ∷ 30 ∷ []) ∷
+    lasted (from ((0, 0x4800) ∷ []) ((0, 0xF000) ∷ []) [] 0 0x0010 0 (0, 0, true) (0, 0, true)) (only ((0x48, 40) ∷ [])) 1 (1 ∷ 0x4000 ∷ 0x0020 ∷ 0 ∷ 40 ∷ 0 ∷ 40 ∷ []) ∷
+    lasted (from ((0x0FFF, 0x8010) ∷ []) ((1, 0x0004) ∷ []) [] 0x0FFF 0 0 (0, 0, true) (0, 0, true)) (only ((0x80, 77) ∷ (256, 999) ∷ [])) 1 (0x1001 ∷ 0x4000 ∷ 0x0080 ∷ 0 ∷ 77 ∷ 0 ∷ 77 ∷ []) ∷
+    -- BEX, and the entry of interrupt 0
+    lasted (fresh ((0, 0x7700) ∷ [])) (only ((0x77, 300) ∷ (256, 7) ∷ [])) 1 (0 ∷ 0 ∷ 0 ∷ 3 ∷ 0 ∷ 0 ∷ 300 ∷ []) ∷
+    lasted (from ((0, 0x7700) ∷ []) [] [] 0 0 0x8000 (0, 0, true) (0, 0, true)) (only ((0x77, 300) ∷ (256, 7) ∷ [])) 1 (0 ∷ 0 ∷ 0 ∷ 0 ∷ 7 ∷ 0 ∷ 7 ∷ []) ∷
+    -- TAH, then TAS
+    lasted (from ((0, 0x4810) ∷ (1, 0x4009) ∷ (2, 0x4810) ∷ (3, 0x4008) ∷ []) [] [] 0 0 0 (5, 60, true) (0, 0, true)) (only ((0x48, 90) ∷ [])) 1 (2 ∷ 0 ∷ 0 ∷ 5 ∷ 60 ∷ 0 ∷ 90 ∷ []) ∷
+    lasted (from ((0, 0x4810) ∷ (1, 0x4009) ∷ (2, 0x4810) ∷ (3, 0x4008) ∷ []) [] [] 0 0 0 (5, 60, true) (0, 0, true)) (only ((0x48, 90) ∷ [])) 2 (4 ∷ 0 ∷ 0 ∷ 6 ∷ 50 ∷ 0 ∷ 180 ∷ []) ∷
+    -- the longest step: 656 rises of A, 66 of B
+    lasted (from [] [] [] 0 0 0 (0xFFF0, 99, true) (0xFFFF, 999, true)) (only ((0x00, 65535) ∷ [])) 1 (1 ∷ 0x0140 ∷ 0 ∷ 0x0280 ∷ 34 ∷ 0x0041 ∷ 534 ∷ []) ∷
+    -- MOV of three words
+    lasted (from ((0, 0x9324) ∷ []) [] ((2, 0x0100) ∷ (3, 3) ∷ (4, 0x0200) ∷ []) 0 0 0 (0, 0, true) (0, 0, true)) (only ((0x93, 60) ∷ [])) 3 (1 ∷ 0 ∷ 0 ∷ 1 ∷ 80 ∷ 0 ∷ 180 ∷ []) ∷
+    -- MOV of none
+    lasted (from ((0, 0x9324) ∷ []) [] ((2, 0x0100) ∷ (4, 0x0200) ∷ []) 0 0 0 (0, 0, true) (0, 0, true)) (only ((0x93, 60) ∷ [])) 1 (1 ∷ 0 ∷ 0 ∷ 0 ∷ 60 ∷ 0 ∷ 60 ∷ []) ∷
+    -- timer B, set in the sixth step of 100 tenths, rises in the fifteenth
+    lasted setting hundreds 14 (15 ∷ 0 ∷ 0 ∷ 14 ∷ 0 ∷ 7 ∷ 900 ∷ []) ∷
+    lasted setting hundreds 15 (16 ∷ 0 ∷ 0 ∷ 15 ∷ 0 ∷ 8 ∷ 0 ∷ []) ∷
+    []
+
+unfoldable pub lasts : Lasted → Bool
+lasts r = equal (shown (steps mil1750 (r .durations) (r .count) (r .start))) (r .end)
+
+pub timed-steps-hold : T (allOf lasts timedSteps)
+unfolding words floats decoder machinery instructions with timedSteps lasts
+timed-steps-hold = tt
+
+-- two runs with other durations: three steps of 100 tenths, then three of 50
+pub halves-hold : T (equal (shown (afterRuns mil1750 (runOf 3 hundreds ∷ runOf 3 (replicate 257 50) ∷ []) (fresh []))) (6 ∷ 0 ∷ 0 ∷ 4 ∷ 50 ∷ 0 ∷ 450 ∷ []))
+unfolding words floats decoder machinery instructions with
+halves-hold = tt

@@ -13,7 +13,7 @@ use Rattle.machine.specs.State.{withCore, withPi}
 use Rattle.machine.specs.Step.{step}
 use Rattle.machine.specs.Runs.{steps}
 use Rattle.machine.proofs.Opened.{machinery}
-use Rattle.machine.proofs.Samples.{resetPages, stateAt, stepsOn, sameMachine}
+use Rattle.machine.proofs.Samples.{resetPages, hundreds, stateAt, stepsOn, sameMachine}
 use Rattle.isa.specs.Mil1750.{mil1750}
 use Rattle.isa.proofs.OpenWords.{words}
 use Rattle.isa.proofs.OpenFloats.{floats}
@@ -67,7 +67,7 @@ holding r s = machine s (r .instruction ∷ numbers 1 4095) resetPages (numbers 
 -- the machine after one step: at the next instruction and without a fault; of SW CS alone is not 0, and counter and timers have run on
 unfoldable pub right : Row → Bool
 right r =
-    let x = step mil1750 (holding r (stateOf (r .before) 0 0)) in
+    let x = step mil1750 hundreds (holding r (stateOf (r .before) 0 0)) in
     sameMachine x (holding r (stepsOn 1 (pending (stateOf (r .after) 1 (4096 * r .cs)) (r .pi))))
 
 pub rows-hold : T (allOf right rows)
@@ -79,7 +79,7 @@ abbrev pub exampleAt : State → Machine
 exampleAt s = machine s (0x823F ∷ 0x7900 ∷ replicate 16382 0) resetPages (replicate 1024 0)
 
 unfoldable pub example : Machine
-example = steps mil1750 1000 (exampleAt (stateAt (replicate 16 0) 0 0))
+example = steps mil1750 hundreds 1000 (exampleAt (stateAt (replicate 16 0) 0 0))
 
 pub example-holds : T (sameMachine example (exampleAt (stepsOn 1000 (stateAt (set (replicate 16 0) 3 16) 1 0x4000))))
 unfolding words floats decoder machinery instructions example

@@ -5,3 +5,4 @@ pub mod OpenDecoder
 pub mod OpenInstructions
 pub mod Known
 pub mod Cases
+pub mod OldTimers

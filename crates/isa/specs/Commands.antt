@@ -12,7 +12,7 @@ use Rattle.machine.specs.declared.State.{State}
 use Rattle.machine.specs.declared.Core.{Core}
 use Rattle.machine.specs.declared.Instruction.{Instruction}
 use Rattle.bits.specs.Bits.{weight, resetBit}
-use Rattle.machine.specs.State.{withRegs, withCore, withClock, withIc, withSw, withMk, withPi, withFt, withEnabled, withHold, withTa, withTb, withTaOn, withTbOn}
+use Rattle.machine.specs.State.{withRegs, withCore, withClock, withIc, withSw, withMk, withPi, withFt, withEnabled, withHold, withTa, withTb, withRemA, withRemB, withTaOn, withTbOn}
 use Rattle.machine.specs.Machine.{Supervised, done, refused, nextOf}
 use Rattle.isa.specs.Fields.{fieldA, register, withRegister}
 
@@ -36,15 +36,16 @@ faultsRead s n = withCore (withRa s n (s .core .ft)) (withFt (withPi (s .core) (
 unfoldable pub becomes : List ℕ → List ℕ → State → Supervised
 becomes g o t = done (record { state = t; pages = g; ports = o })
 
--- the timer commands, each with what it does to a state whose register k is RA: TAS TAH OTA TBS TBH OTB, ITA ITB
+-- the timer commands, each with what it does to a state whose register k is RA: TAS TAH OTA TBS TBH OTB, ITA ITB. "OTA and OTB clear theirs": no other command
+-- touches a remainder
 abbrev pub timerRules : List (ℕ × (State → ℕ → State))
 timerRules =
     (0x4008, λ s k. withClock s (withTaOn (s .clock) true)) ∷
     (0x4009, λ s k. withClock s (withTaOn (s .clock) false)) ∷
-    (0x400A, λ s k. withClock s (withTaOn (withTa (s .clock) (register (s .regs) k)) true)) ∷
+    (0x400A, λ s k. withClock s (withTaOn (withRemA (withTa (s .clock) (register (s .regs) k)) 0) true)) ∷
     (0x400C, λ s k. withClock s (withTbOn (s .clock) true)) ∷
     (0x400D, λ s k. withClock s (withTbOn (s .clock) false)) ∷
-    (0x400E, λ s k. withClock s (withTbOn (withTb (s .clock) (register (s .regs) k)) true)) ∷
+    (0x400E, λ s k. withClock s (withTbOn (withRemB (withTb (s .clock) (register (s .regs) k)) 0) true)) ∷
     (0xC00A, λ s k. withRegs s (withRegister (s .regs) k (s .clock .ta))) ∷
     (0xC00E, λ s k. withRegs s (withRegister (s .regs) k (s .clock .tb))) ∷
     []
@@ -57,14 +58,12 @@ timerCommand s k command = select command timerRules (λ t j. t) s k
 unfoldable pub isTimer : ℕ → Bool
 isTimer command = among command (map (λ r. r .0) timerRules)
 
--- the other commands on the state alone, from the contents of RA, for the state at the next instruction; the default is an illegal command, FT bit 5
--- SMK CLIR ENBL DSBL RPI SPI WSW, RMK RPIR RSW RCFR
-unfoldable pub coreCommand : State → List ℕ → List ℕ → Instruction → ℕ → ℕ → Supervised
-coreCommand s g o n ra command =
+-- the other commands on the state alone, from the contents of RA, for the state at the next instruction: SMK CLIR ENBL DSBL RPI SPI WSW, RMK RPIR RSW RCFR
+abbrev pub coreRules : State → List ℕ → List ℕ → Instruction → ℕ → List (ℕ × Supervised)
+coreRules s g o n ra =
     let c = s .core in
     let core : Core → Supervised = λ d. becomes g o (withCore s d) in
-    select command
-    ((0x2000, core (withMk c ra)) ∷
+    (0x2000, core (withMk c ra)) ∷
     (0x2001, core (withFt (withPi c 0) 0)) ∷
     (0x2002, core (withHold (withEnabled c true) true)) ∷
     (0x2003, core (withEnabled c false)) ∷
@@ -75,8 +74,11 @@ coreCommand s g o n ra command =
     (0xA004, becomes g o (withRa s n (c .pi))) ∷
     (0xA00E, becomes g o (withRa s n (c .sw))) ∷
     (0xA00F, becomes g o (faultsRead s n)) ∷
-    [])
-    (refused (weight 5))
+    []
+
+-- any other is an illegal command, FT bit 5
+unfoldable pub coreCommand : State → List ℕ → List ℕ → Instruction → ℕ → ℕ → Supervised
+coreCommand s g o n ra command = select command (coreRules s g o n ra) (refused (weight 5))
 
 -- the commands on the state alone: those of timers and the others
 unfoldable pub stateCommand : State → List ℕ → List ℕ → Instruction → ℕ → ℕ → Supervised
@@ -84,12 +86,11 @@ stateCommand s g o n ra command =
     cond (isTimer command) (becomes g o (timerCommand s (fieldA (n .first)) command)) (coreCommand s g o n ra command)
 
 -- all commands: by ranges those that name a port or a page register in their low bits, PO PI WIPR WOPR RIPR ROPR, and between them the others
-unfoldable pub commanded : State → List ℕ → List ℕ → Instruction → ℕ → ℕ → Supervised
-commanded s g o n ra command =
+abbrev pub ranges : State → List ℕ → List ℕ → Instruction → ℕ → ℕ → List (ℕ × Supervised)
+ranges s g o n ra command =
     let page = command % 256 in
     let other = stateCommand s g o n ra command in
-    upTo command
-    ((0x03FF, becomes g (set o command ra) s) ∷
+    (0x03FF, becomes g (set o command ra) s) ∷
     (0x50FF, other) ∷
     (0x51FF, becomes (set g page ra) o s) ∷
     (0x52FF, becomes (set g (256 + page) ra) o s) ∷
@@ -98,8 +99,10 @@ commanded s g o n ra command =
     (0xD0FF, other) ∷
     (0xD1FF, becomes g o (withRa s n (getD g page 0))) ∷
     (0xD2FF, becomes g o (withRa s n (getD g (256 + page) 0))) ∷
-    [])
-    other
+    []
+
+unfoldable pub commanded : State → List ℕ → List ℕ → Instruction → ℕ → ℕ → Supervised
+commanded s g o n ra command = upTo command (ranges s g o n ra command) (stateCommand s g o n ra command)
 
 -- XIO: its command is its immediate operand, from the contents of RA
 abbrev pub transferred : State → List ℕ → List ℕ → Instruction → Supervised

@@ -10,3 +10,4 @@ pub mod Floats
 pub mod Execute
 pub mod Commands
 pub mod Mil1750
+pub mod OldTimers

@@ -17,7 +17,7 @@ use Rattle.machine.specs.State.{keyOf, groupOf, resetState, withIc, with
 use Rattle.machine.specs.Runs.{runOf, numberOf, answerOf}
 use Rattle.machine.specs.Isolation.{Compared}
 use Rattle.machine.proofs.Opened.{machinery}
-use Rattle.machine.proofs.Samples.{stateAt}
+use Rattle.machine.proofs.Samples.{stateAt, hundreds}
 
 -- every register names page 0 and admits every key, but those of logical page 1 in address state 0: they name page 1 and have lock 5
 abbrev registers : List ℕ
@@ -79,6 +79,6 @@ pub unnamed-differ : holding 0 0 ≢ holding 0 1
 unnamed-differ e = let z : _≡_ {A = ℕ} 0 1 = ap (λ x. getD (x .memory) 8192 0) e in absurd (omega arith)
 
 -- and runs of them are not refused
-pub accepted : T (eqb (numberOf (answerOf (holding 0 0) (runOf 1000))) 0 && eqb (numberOf (answerOf (holding 1 1) (runOf 1000))) 0)
+pub accepted : T (eqb (numberOf (answerOf (holding 0 0) (runOf 1000 hundreds))) 0 && eqb (numberOf (answerOf (holding 1 1) (runOf 1000 hundreds))) 0)
 unfolding machinery
 accepted = tt

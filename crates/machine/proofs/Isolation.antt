@@ -8,8 +8,8 @@ use Rattle.machine.specs.Machine.{Machine, Isa}
 use Rattle.machine.specs.Timelines.{Item, stepped, stepsLater, entryIn}
 use Rattle.machine.specs.Runs.{Run, answerOf, stepsOf, made, items, consUnless, left, answers, afterRuns, timeline, firstEntry, beforeEntry}
 use Rattle.machine.specs.Isolation.{Alike, Compared, Found, Findings, Isolated, IsolatedApart}
-use Rattle.machine.proofs.TimelineLaws.{firstOr, stepsIn, as-many}
-use Rattle.machine.proofs.RunLaws.{after-play, total, entry-cons, before-all}
+use Rattle.machine.proofs.TimelineLaws.{firstOr, stepsIn}
+use Rattle.machine.proofs.RunLaws.{after-play, entry-cons, before-all}
 use Rattle.machine.proofs.StepLaws.{found-start, compared-again, found-found, Played, played}
 
 -- ---- one run of both
@@ -21,7 +21,7 @@ answer-same x y a r = rw (a .size, a .pages, a .ports, a .state)
 
 items-same : (x y : Machine) → Alike x y → (r : Run) → items x r ≡ items y r
 unfolding items made
-items-same x y a r = ap (λ z. replicate (stepsOf z (r .budget)) stepped) (answer-same x y a r)
+items-same x y a r = ap (λ z. replicate (stepsOf z (r .budget)) (stepped (r .durations))) (answer-same x y a r)
 
 -- all that is used of a run: its first entry is at the same step; where it has none, answers, items and findings are the same
 record OneRun (isa : Isa) (r : Run) (x y : Machine) : Type 0 where
@@ -88,9 +88,8 @@ isolated isa rs x y c =
     let i : Before isa rs x y = before-entry isa rs x y c in
     record { entry = i .entry; whole = λ h. rw (before-all isa rs x h) at (i .before); runs = i .runs; before = i .before }
 
--- ---- lists of unequal budgets
+-- ---- "Lists of unequal budgets that make equally many steps leave the same findings, answers aside": with the same durations step by step, their timelines are equal
 
--- with equal timelines
 pub isolated-apart : (isa : Isa) (rs qs : List Run) (x y : Machine) → Compared x y → timeline isa rs x ≡ timeline isa qs y → IsolatedApart isa rs qs x y
 unfolding firstEntry
 isolated-apart isa rs qs x y c t =
@@ -99,8 +98,3 @@ isolated-apart isa rs qs x y c t =
       entry = p .entry ∙ ap (λ (u : List Item). entryIn isa u y) t;
       found = λ h. rw (after-play isa rs x, after-play isa qs y, ← t) (p .found h);
     }
-
--- "Lists of unequal budgets that make equally many steps leave the same findings, answers aside": their timelines are equal
-pub isolated-equally : (isa : Isa) (rs qs : List Run) (x y : Machine) → Compared x y → total isa rs x ≡ total isa qs y → IsolatedApart isa rs qs x y
-unfolding total
-isolated-equally isa rs qs x y c n = isolated-apart isa rs qs x y c (as-many (timeline isa rs x) (timeline isa qs y) n)

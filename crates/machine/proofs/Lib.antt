@@ -5,7 +5,9 @@ pub mod SameLaws
 pub mod InstructionLaws
 pub mod TimelineLaws
 pub mod RunLaws
+pub mod DurationLaws
 pub mod StepLaws
+pub mod OldTimerLaws
 pub mod Isolation
 pub mod Opened
 pub mod Samples

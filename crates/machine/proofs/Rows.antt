@@ -1,6 +1,6 @@
--- Known cases of the definitions, as rows of one table that the checker computes: which interrupt is entered, the counter and the timers,
+-- Known cases of the definitions, as rows of one table that the checker computes: which interrupt is entered, the counter and the timers, the duration of a step,
 -- the checks before a run, and single steps of a small instruction set. Assumes nothing.
-use Prim.Native.Nat.{ℕ, suc, _+_}
+use Prim.Native.Nat.{ℕ, zero, suc, _+_}
 use mathlib.Core.Bool.{Bool, true, false, cond, _&&_}
 use mathlib.Core.List.{List, [], _∷_, _++_, map}
 use mathlib.Core.Option.{Option, none, some}
@@ -18,12 +18,11 @@ use Rattle.machine.specs.State.{Processor, resetState, withCore, withClo
 use Rattle.machine.specs.Machine.{Machine, machine, Isa, Effect, Supervised, done, refused, nextOf, spanFrom}
 use Rattle.decode.specs.Forms.{operationOf}
 use Rattle.machine.specs.Entries.{chosen}
-use Rattle.machine.specs.Step.{ticked, step}
-use Rattle.machine.specs.Runs.{runOf, numberOf, admission, answers, afterRuns, firstEntry, beforeEntry}
+use Rattle.machine.specs.Step.{ticked, duration, step}
+use Rattle.machine.specs.Runs.{runOf, numberOf, admission, answers, afterRuns, timeline, firstEntry, beforeEntry}
 use Rattle.machine.proofs.Opened.{machinery}
 use Rattle.machine.proofs.TimelineLaws.{stepsIn}
-use Rattle.machine.proofs.RunLaws.{total}
-use Rattle.machine.proofs.Samples.{coreParts, clockParts}
+use Rattle.machine.proofs.Samples.{hundreds, coreParts, clockParts}
 
 -- ---- a small instruction set: a word is its own form, and the second word is the address
 
@@ -52,22 +51,32 @@ small = record { decode = λ w. w; class = classOf; base = λ mode p w x. x; rea
 
 -- ---- machines
 
--- IC, SW, MK, PI, enabled, hold; FT is 1, R15 is 15, timer A at 30 runs, timer B at 40 does not, and the counter is 9
+-- IC, SW, MK, PI, enabled, hold; FT is 1, R15 is 15, timer A at 30 runs with the remainder 60, timer B at 40 with 50 does not, and the counter is 9
 abbrev state : ℕ → ℕ → ℕ → ℕ → Bool → Bool → State
 state ic sw mk pi enabled hold =
     record {
       regs = set sixteenZeros 15 15;
       core = record { ic = ic; sw = sw; mk = mk; pi = pi; ft = 1; enabled = enabled; hold = hold };
-      clock = record { ta = 30; tb = 40; taon = true; tbon = false; count = 9 };
+      clock = record { ta = 30; tb = 40; rema = 60; remb = 50; taon = true; tbon = false; count = 9 };
     }
 
--- what every step makes of the rest: the counter and timer A rise, the rest stays
+-- what every step of 100 tenths makes of the rest: the counter and timer A rise, the rest stays
 abbrev restRight : State → Bool
-restRight s = equal (getD (s .regs) 15 0 ∷ clockParts (s .clock)) (15 ∷ 31 ∷ 40 ∷ 1 ∷ 0 ∷ 10 ∷ [])
+restRight s = equal (getD (s .regs) 15 0 ∷ clockParts (s .clock)) (15 ∷ 31 ∷ 40 ∷ 60 ∷ 50 ∷ 1 ∷ 0 ∷ 10 ∷ [])
 
--- PI, timers A and B, their marks, the counter
-abbrev timed : ℕ → ℕ → ℕ → Bool → Bool → ℕ → State
-timed pi ta tb taon tbon count = withClock (withCore resetState (withPi (resetState .core) pi)) (record { ta = ta; tb = tb; taon = taon; tbon = tbon; count = count })
+-- PI; each timer with its remainder and its mark; the counter is 9
+abbrev timed : ℕ → ℕ × ℕ × Bool → ℕ × ℕ × Bool → State
+timed pi a b =
+    withClock (withCore resetState (withPi (resetState .core) pi))
+    (record { ta = a .0; tb = b .0; rema = a .1; remb = b .1; taon = a .2; tbon = b .2; count = 9 })
+
+-- durations that tell their numbers: 1,000 + n is number n
+abbrev countedUp : ℕ → ℕ → List ℕ
+countedUp a zero = []
+countedUp a (suc n) = a ∷ countedUp (a + 1) n
+
+abbrev numbered : List ℕ
+numbered = countedUp 1000 257
 
 -- n words d but for those given by their addresses
 abbrev filled : ℕ → ℕ → List (ℕ × ℕ) → List ℕ
@@ -92,10 +101,12 @@ stepOf (some n) = suc n
 pub data Row : Type 0 where
   -- PI, MK, enabled, hold: the interrupt that is entered, 16 for none
   choice : ℕ → ℕ → Bool → Bool → ℕ → Row
-  -- PI, timers A and B, their marks, the counter: PI, timers and counter at the end of a step
-  ticking : ℕ → ℕ → ℕ → Bool → Bool → ℕ → List ℕ → Row
-  -- the sizes of memory, page registers and ports, the counter, the budget: the number of the answer
-  asking : ℕ → ℕ → ℕ → ℕ → ℕ → ℕ → Row
+  -- the tenths of a step, PI, timers A and B with remainders and marks: PI, timers, remainders, marks and the counter at its end
+  ticking : ℕ → ℕ → ℕ × ℕ × Bool → ℕ × ℕ × Bool → List ℕ → Row
+  -- a state, its memory, its page registers other than F000: the number of the duration of its step
+  lasting : State → List ℕ → List (ℕ × ℕ) → ℕ → Row
+  -- the sizes of memory, page registers, ports and durations, the counter, the budget: the number of the answer
+  asking : ℕ → ℕ → ℕ → ℕ → ℕ → ℕ → ℕ → Row
   -- a state, its memory, its page registers other than F000 (lock F, page 0), some addresses: what is shown after a step
   stepping : State → List ℕ → List (ℕ × ℕ) → List ℕ → List ℕ → Row
   -- a state, the word at 0 in a memory of illegal words, the budgets of runs: their steps, the step of the first entry (0: none) and the numbers of
@@ -103,17 +114,18 @@ pub data Row : Type 0 where
   running : State → ℕ → List ℕ → List ℕ → List ℕ → Row
 
 unfoldable pub right : Row → Bool
-unfolding machinery total stepsIn
+unfolding machinery stepsIn
 right (choice pi mk enabled hold n) = eqb (chosen (state 0 0 mk pi enabled hold .core)) n
-right (ticking pi ta tb taon tbon count r) =
-    let s = ticked (timed pi ta tb taon tbon count) in equal (s .core .pi ∷ s .clock .ta ∷ s .clock .tb ∷ s .clock .count ∷ []) r
-right (asking memory pages ports count budget n) = eqb (numberOf (admission memory pages ports count budget)) n
-right (stepping s m ps places r) = let x = step small (machine s m (filled 512 0xF000 ps) (replicate 4 0)) in equal (shown places x) r && restRight (x .state)
+right (ticking d pi a b r) = let s = ticked d (timed pi a b) in equal (s .core .pi ∷ clockParts (s .clock)) r
+right (lasting s m ps n) = eqb (duration numbered (machine s m (filled 512 0xF000 ps) (replicate 4 0))) (1000 + n)
+right (asking memory pages ports durations count budget n) = eqb (numberOf (admission memory pages ports durations count budget)) n
+right (stepping s m ps places r) = let x = step small hundreds (machine s m (filled 512 0xF000 ps) (replicate 4 0)) in equal (shown places x) r && restRight (x .state)
 right (running s w bs r before) =
     let x = machine s (wordsAt 4096 ((0, w) ∷ [])) (replicate 512 0xF000) (replicate 1024 0) in
-    let rs = map runOf bs in
-    equal (total small rs x ∷ stepOf (firstEntry small rs x) ∷ map numberOf (answers small rs x)) r
-    && (equal (map (λ q. q .budget) (beforeEntry small rs x)) before && eqb (afterRuns small rs x .state .clock .count) (s .clock .count + total small rs x))
+    let rs = map (λ b. runOf b hundreds) bs in
+    let total = stepsIn (timeline small rs x) in
+    equal (total ∷ stepOf (firstEntry small rs x) ∷ map numberOf (answers small rs x)) r
+    && (equal (map (λ q. q .budget) (beforeEntry small rs x)) before && eqb (afterRuns small rs x .state .clock .count) (s .clock .count + total))
 
 pub choices : List Row
 choices =
@@ -130,40 +142,50 @@ choices =
     ∷ choice 0 0xFFFF true false 16
     ∷ []
 
+-- 656 rises: of 65,535 tenths and a remainder of 99; 1,310 of a remainder that no step leaves
 pub ticks : List Row
 ticks =
-    ticking 0 0 0 true true 0 (0 ∷ 1 ∷ 0 ∷ 1 ∷ [])
-    ∷ ticking 0 7 7 true true 9 (0 ∷ 8 ∷ 8 ∷ 10 ∷ [])
-    ∷ ticking 0 7 7 true true 10 (0 ∷ 8 ∷ 7 ∷ 11 ∷ [])
-    ∷ ticking 0 7 7 false true 9 (0 ∷ 7 ∷ 8 ∷ 10 ∷ [])
-    ∷ ticking 0 7 7 true false 9 (0 ∷ 8 ∷ 7 ∷ 10 ∷ [])
-    ∷ ticking 0x8000 0xFFFF 0xFFFF true true 9 (0x8140 ∷ 0 ∷ 0 ∷ 10 ∷ [])
-    ∷ ticking 0 0xFFFF 0xFFFF true true 8 (0x0100 ∷ 0 ∷ 0xFFFF ∷ 9 ∷ [])
-    ∷ ticking 0 0xFFFF 0xFFFF false true 19 (0x0040 ∷ 0xFFFF ∷ 0 ∷ 20 ∷ [])
-    ∷ ticking 0 0xFFFF 0xFFFF false false 19 (0 ∷ 0xFFFF ∷ 0xFFFF ∷ 20 ∷ [])
-    ∷ ticking 0 0xFFFE 0 true true 3 (0 ∷ 0xFFFF ∷ 0 ∷ 4 ∷ [])
+    ticking 100 0 (7, 0, true) (7, 800, true) (0 ∷ 8 ∷ 7 ∷ 0 ∷ 900 ∷ 1 ∷ 1 ∷ 10 ∷ [])
+    ∷ ticking 100 0 (7, 0, true) (7, 900, true) (0 ∷ 8 ∷ 8 ∷ 0 ∷ 0 ∷ 1 ∷ 1 ∷ 10 ∷ [])
+    ∷ ticking 37 0 (7, 62, true) (7, 962, true) (0 ∷ 7 ∷ 7 ∷ 99 ∷ 999 ∷ 1 ∷ 1 ∷ 10 ∷ [])
+    ∷ ticking 37 0 (7, 63, true) (7, 963, true) (0 ∷ 8 ∷ 8 ∷ 0 ∷ 0 ∷ 1 ∷ 1 ∷ 10 ∷ [])
+    ∷ ticking 0 0 (7, 99, true) (7, 999, true) (0 ∷ 7 ∷ 7 ∷ 99 ∷ 999 ∷ 1 ∷ 1 ∷ 10 ∷ [])
+    ∷ ticking 0 0 (7, 100, true) (7, 1000, true) (0 ∷ 8 ∷ 8 ∷ 0 ∷ 0 ∷ 1 ∷ 1 ∷ 10 ∷ [])
+    ∷ ticking 1000 0 (7, 60, false) (7, 60, true) (0 ∷ 7 ∷ 8 ∷ 60 ∷ 60 ∷ 0 ∷ 1 ∷ 10 ∷ [])
+    ∷ ticking 1000 0 (7, 60, true) (7, 60, false) (0 ∷ 17 ∷ 7 ∷ 60 ∷ 60 ∷ 1 ∷ 0 ∷ 10 ∷ [])
+    ∷ ticking 65535 0 (7, 65535, false) (7, 65535, false) (0 ∷ 7 ∷ 7 ∷ 65535 ∷ 65535 ∷ 0 ∷ 0 ∷ 10 ∷ [])
+    ∷ ticking 100 0x8000 (0xFFFF, 0, true) (0xFFFF, 900, true) (0x8140 ∷ 0 ∷ 0 ∷ 0 ∷ 0 ∷ 1 ∷ 1 ∷ 10 ∷ [])
+    ∷ ticking 99 0 (0xFFFF, 0, true) (0xFFFF, 900, true) (0 ∷ 0xFFFF ∷ 0xFFFF ∷ 99 ∷ 999 ∷ 1 ∷ 1 ∷ 10 ∷ [])
+    ∷ ticking 100 0 (0xFFFF, 0, false) (0xFFFF, 900, true) (0x0040 ∷ 0xFFFF ∷ 0 ∷ 0 ∷ 0 ∷ 0 ∷ 1 ∷ 10 ∷ [])
+    ∷ ticking 65535 0 (0xFFF0, 99, true) (0xFFFF, 999, true) (0x0140 ∷ 0x0280 ∷ 0x0041 ∷ 34 ∷ 534 ∷ 1 ∷ 1 ∷ 10 ∷ [])
+    ∷ ticking 65535 0 (0xFAE2, 65535, true) (0xFF7D, 65535, true) (0x0140 ∷ 0 ∷ 0 ∷ 70 ∷ 70 ∷ 1 ∷ 1 ∷ 10 ∷ [])
+    ∷ ticking 65535 0 (0xFAE1, 65535, true) (0xFF7C, 65535, true) (0 ∷ 0xFFFF ∷ 0xFFFF ∷ 70 ∷ 70 ∷ 1 ∷ 1 ∷ 10 ∷ [])
     ∷ []
 
 pub checks : List Row
 checks =
-    asking 4096 512 1024 0 0 0
-    ∷ asking 1048576 512 1024 4293967295 1000000 0
-    ∷ asking 0 512 1024 0 0 1
-    ∷ asking 4095 512 1024 0 0 1
-    ∷ asking 6144 512 1024 0 0 1
-    ∷ asking 1052672 512 1024 0 0 1
-    ∷ asking 4096 511 1024 0 0 2
-    ∷ asking 4096 513 1024 0 0 2
-    ∷ asking 4096 512 1023 0 0 3
-    ∷ asking 4096 512 1025 0 0 3
-    ∷ asking 4096 512 1024 0 1000001 4
-    ∷ asking 4096 512 1024 4293967296 1000000 5
-    ∷ asking 4096 512 1024 4294967295 1 5
-    ∷ asking 4096 512 1024 4294967295 0 0
-    ∷ asking 4097 0 0 4294967295 1000001 1
-    ∷ asking 4096 0 0 4294967295 1000001 2
-    ∷ asking 4096 512 0 4294967295 1000001 3
-    ∷ asking 4096 512 1024 4294967295 1000001 4
+    asking 4096 512 1024 257 0 0 0
+    ∷ asking 1048576 512 1024 257 4293967295 1000000 0
+    ∷ asking 0 512 1024 257 0 0 1
+    ∷ asking 4095 512 1024 257 0 0 1
+    ∷ asking 6144 512 1024 257 0 0 1
+    ∷ asking 1052672 512 1024 257 0 0 1
+    ∷ asking 4096 511 1024 257 0 0 2
+    ∷ asking 4096 513 1024 257 0 0 2
+    ∷ asking 4096 512 1023 257 0 0 3
+    ∷ asking 4096 512 1025 257 0 0 3
+    ∷ asking 4096 512 1024 0 0 0 17
+    ∷ asking 4096 512 1024 256 0 2000000 17
+    ∷ asking 4096 512 1024 258 0 0 17
+    ∷ asking 4096 512 1024 257 0 1000001 4
+    ∷ asking 4096 512 1024 257 4293967296 1000000 5
+    ∷ asking 4096 512 1024 257 4294967295 1 5
+    ∷ asking 4096 512 1024 257 4294967295 0 0
+    ∷ asking 4097 0 0 0 4294967295 1000001 1
+    ∷ asking 4096 0 0 0 4294967295 1000001 2
+    ∷ asking 4096 512 0 0 4294967295 1000001 3
+    ∷ asking 4096 512 1024 0 4294967295 1000001 17
+    ∷ asking 4096 512 1024 257 4294967295 1000001 4
     ∷ []
 
 -- interrupt 0: linkage pointer 50, service pointer 53; from there MK 1111, SW 0002, IC 3333
@@ -233,6 +255,26 @@ instructions =
     ∷ stepping (state 5 0 0 0 false false) (at5 0x2001 0x0123 0) [] [] (7 ∷ 0 ∷ 0 ∷ 0 ∷ 1 ∷ 0 ∷ 1 ∷ 0 ∷ 0x0123 ∷ 0x0123 ∷ [])
     ∷ []
 
+-- the duration of a step
+pub durations : List Row
+durations =
+    -- an interrupt is entered, whatever stands at IC; the hold mark lets the instruction run
+    lasting (state 5 0 0 0x8000 false false) (at5 0x2602 40 5) [] 256
+    ∷ lasting (state 5 0 0 0x8000 false true) (at5 0x2602 40 5) [] 0x26
+    -- the fetch of the first word is refused: by E, by a lock, by the memory's end
+    ∷ lasting (state 5 0 0 0 false false) (at5 0x2602 40 5) ((0, 0xF800) ∷ []) 256
+    ∷ lasting (state 5 0x0020 0 0 false false) (at5 0x2602 40 5) ((0, 0x3000) ∷ []) 256
+    ∷ lasting (state 64 0 0 0 false false) (at5 0x2602 40 5) [] 256
+    -- an illegal word, a privileged one under key 2, a refused second word, a refused operand, a refused command
+    ∷ lasting (state 0 0 0 0 false false) (at5 0x2602 40 5) [] 0
+    ∷ lasting (state 5 0x0020 0 0 false false) (at5 0x2001 0 0) [] 0x20
+    ∷ lasting (state 0xFFFF 0 0 0 false false) (atEnd 0x2002) ((0, 0xF800) ∷ []) 0x20
+    ∷ lasting (state 5 0 0 0 false false) (at5 0xFE05 40 5) ((256, 0x0800) ∷ []) 0xFE
+    ∷ lasting (state 5 0 0 0 false false) (at5 0x2001 0x9000 0) [] 0x20
+    -- BEX
+    ∷ lasting (state 5 0 0 0 false false) (at5 0x101E 0 0) [] 0x10
+    ∷ []
+
 pub runs : List Row
 runs =
     -- the illegal instruction of the first step pends interrupt 1, which the fourth run enters
@@ -244,8 +286,8 @@ runs =
     ∷ []
 
 pub rows : List Row
-rows = choices ++ ticks ++ checks ++ entries ++ instructions ++ runs
+rows = choices ++ ticks ++ checks ++ entries ++ instructions ++ durations ++ runs
 
 pub rows-hold : T (allOf right rows)
-unfolding right rows choices ticks checks entries instructions runs
+unfolding right rows choices ticks checks entries instructions durations runs
 rows-hold = tt

@@ -1,6 +1,6 @@
 -- Lists of runs: their timelines, and the runs before the first entry. Assumes nothing.
-use Prim.Native.Nat.{ℕ, suc, _+_}
-use mathlib.Core.Path.{_≡_, refl, sym, ap, ap₂, _∙_}
+use Prim.Native.Nat.{ℕ, suc}
+use mathlib.Core.Path.{_≡_, refl, sym, ap, _∙_}
 use mathlib.Core.Logic.{_≢_}
 use mathlib.Core.List.{List, [], _∷_}
 use mathlib.Core.Option.{Option, none, some}
@@ -9,12 +9,12 @@ use Rattle.machine.specs.Machine.{Machine, Isa}
 use Rattle.machine.specs.Step.{step}
 use Rattle.machine.specs.Timelines.{stepsLater, play, entryIn}
 use Rattle.machine.specs.Runs.{Run, numberOf, answerOf, stepsOf, made, items, consUnless, steps, left, afterRuns, timeline, firstEntry, beforeEntry}
-use Rattle.machine.proofs.TimelineLaws.{some≢none, later-none, firstOr, play-append, stepsIn, steps-append, entry-append, steps-repeated}
+use Rattle.machine.proofs.TimelineLaws.{some≢none, later-none, firstOr, play-append, stepsIn, entry-append}
 
 -- ---- one run
 
 -- an accepted run makes its budget of steps, and a refused one changes nothing
-pub spent-left : (isa : Isa) (x : Machine) (r : Run) → numberOf (answerOf x r) ≡ 0 → left isa x r ≡ steps isa (r .budget) x
+pub spent-left : (isa : Isa) (x : Machine) (r : Run) → numberOf (answerOf x r) ≡ 0 → left isa x r ≡ steps isa (r .durations) (r .budget) x
 unfolding left items made stepsOf steps
 spent-left isa x r e = rw e refl
 
@@ -23,13 +23,13 @@ unfolding left items made stepsOf play
 refused-left isa x r e = rw (ne-eqb _ _ e) refl
 
 -- the steps of a loop: none, and one more
-pub steps-zero : (isa : Isa) (x : Machine) → steps isa 0 x ≡ x
+pub steps-zero : (isa : Isa) (d : List ℕ) (x : Machine) → steps isa d 0 x ≡ x
 unfolding steps play
-steps-zero isa x = refl
+steps-zero isa d x = refl
 
-pub steps-suc : (isa : Isa) (n : ℕ) (x : Machine) → steps isa (suc n) x ≡ steps isa n (step isa x)
+pub steps-suc : (isa : Isa) (d : List ℕ) (n : ℕ) (x : Machine) → steps isa d (suc n) x ≡ steps isa d n (step isa d x)
 unfolding steps play
-steps-suc isa n x = refl
+steps-suc isa d n x = refl
 
 -- ---- a list of runs is its timeline
 
@@ -37,18 +37,6 @@ pub after-play : (isa : Isa) (rs : List Run) (x : Machine) → afterRuns isa rs 
 unfolding afterRuns timeline left play
 after-play isa [] x = refl
 after-play isa (r ∷ rs) x = after-play isa rs (left isa x r) ∙ sym (play-append isa (items x r) (timeline isa rs (left isa x r)) x)
-
--- how many steps it makes: as many as its runs
-unfoldable pub total : Isa → List Run → Machine → ℕ
-total isa rs x = stepsIn (timeline isa rs x)
-
-pub total-nil : (isa : Isa) (x : Machine) → total isa [] x ≡ 0
-unfolding total timeline stepsIn
-total-nil isa x = refl
-
-pub total-cons : (isa : Isa) (r : Run) (rs : List Run) (x : Machine) → total isa (r ∷ rs) x ≡ made x r + total isa rs (left isa x r)
-unfolding total timeline items
-total-cons isa r rs x = steps-append (items x r) (timeline isa rs (left isa x r)) ∙ ap₂ _+_ (steps-repeated (made x r)) refl
 
 -- the first entry is in the first run, or among the others
 pub entry-cons : (isa : Isa) (r : Run) (rs : List Run) (x : Machine)

@@ -8,7 +8,7 @@ use mathlib.Core.List.{List, [], _∷_}
 use mathlib.Core.Option.{none}
 use native.Mathlib.Omega.{arith}
 use lib.Dec.{ltb}
-use lib.ListN.{length}
+use lib.ListN.{length, getD}
 use Rattle.page.specs.Pages.{MaySee}
 use Rattle.page.specs.Spans.{written}
 use Rattle.machine.specs.declared.State.{State}
@@ -16,7 +16,7 @@ use Rattle.machine.specs.State.{keyOf, groupOf, withCs, withIc, withSw, 
 use Rattle.machine.specs.Machine.{Machine, machine, Isa}
 use Rattle.machine.specs.Instructions.{Action, enter, call, fail, affect, govern, View}
 use Rattle.machine.specs.Entries.{chosen}
-use Rattle.machine.specs.Step.{released, begunFrom, faulted, affected, stored, perform, ticked, tick, isEntry, begun, action, step}
+use Rattle.machine.specs.Step.{released, begunFrom, faulted, affected, stored, perform, ticked, tick, timing, duration, isEntry, begun, action, step}
 use Rattle.machine.specs.Timelines.{Item, stepped, stepsLater, play, entryIn}
 use Rattle.machine.specs.Isolation.{Alike, key, group, Compared, Found}
 use Rattle.page.proofs.ReachLaws.{written-barred}
@@ -74,13 +74,18 @@ module _ (isa : Isa) (s : State) (m₁ m₂ g o : List ℕ) (h : Same (MaySee (k
   action-shared =
       ap (λ (v : View). begun isa (begunFrom s) g o v (chosen (s .core)) (ltb (chosen (s .core)) 16)) (view-same (released (s .core)) m₁ m₂ g h)
 
-  -- an action that is no entry and nothing privileged
-  performed-found : (d : Action) → isEntry d ≡ false → Governed (λ r. ⊥) d
-      → Found (machine s m₁ g o) (machine s m₂ g o) (tick (perform (begunFrom s) m₁ g o d)) (tick (perform (begunFrom s) m₂ g o d))
+  -- so is its duration
+  duration-shared : (d : List ℕ) → duration d (machine s m₁ g o) ≡ duration d (machine s m₂ g o)
+  unfolding duration
+  duration-shared d = ap (λ (v : View). getD d (timing (s .core) v (ltb (chosen (s .core)) 16)) 0) (view-same (s .core) m₁ m₂ g h)
+
+  -- an action that is no entry and nothing privileged, and a tick of any time
+  performed-found : (t : ℕ) (d : Action) → isEntry d ≡ false → Governed (λ r. ⊥) d
+      → Found (machine s m₁ g o) (machine s m₂ g o) (tick t (perform (begunFrom s) m₁ g o d)) (tick t (perform (begunFrom s) m₂ g o d))
   unfolding perform tick isEntry stored begunFrom released withHold faulted affected ticked withIc withSw withPi withFt
-  performed-found (enter n) e u = absurd (true≢false e)
-  performed-found (call n) e u = absurd (true≢false e)
-  performed-found (fail b a) e u = record {
+  performed-found t (enter n) e u = absurd (true≢false e)
+  performed-found t (call n) e u = absurd (true≢false e)
+  performed-found t (fail b a) e u = record {
     alike = record { state = refl; pages = refl; ports = refl; size = h .size };
     seen = h .agree;
     first-kept = λ p n. refl;
@@ -89,7 +94,7 @@ module _ (isa : Isa) (s : State) (m₁ m₂ g o : List ℕ) (h : Same (MaySee (k
     key-kept = refl;
     group-kept = refl;
   }
-  performed-found (affect f p) e u =
+  performed-found t (affect f p) e u =
       let k : ℕ = keyOf (s .core .sw) in
       let a : ℕ = groupOf (s .core .sw) in
       let z : ℕ = length m₂ in
@@ -103,18 +108,18 @@ module _ (isa : Isa) (s : State) (m₁ m₂ g o : List ℕ) (h : Same (MaySee (k
         key-kept = keeps-key (s .core .sw) (f .cs);
         group-kept = keeps-group (s .core .sw) (f .cs);
       })
-  performed-found (govern r) e u = absurd u
+  performed-found t (govern r) e u = absurd u
 
   begun-governed : (v : View) → keyOf (s .core .sw) ≢ 0 → (n : ℕ) (b : Bool) → Governed (λ r. ⊥) (begun isa (begunFrom s) g o v n b)
   unfolding begun begunFrom released withHold
   begun-governed v k n true = tt
   begun-governed v k n false = instructed-governed isa (begunFrom s) v g o (λ r. ⊥) (λ z. absurd (k z))
 
-  step-shared : keyOf (s .core .sw) ≢ 0 → isEntry (action isa (machine s m₁ g o)) ≡ false
-      → Found (machine s m₁ g o) (machine s m₂ g o) (step isa (machine s m₁ g o)) (step isa (machine s m₂ g o))
+  step-shared : (d : List ℕ) → keyOf (s .core .sw) ≢ 0 → isEntry (action isa (machine s m₁ g o)) ≡ false
+      → Found (machine s m₁ g o) (machine s m₂ g o) (step isa d (machine s m₁ g o)) (step isa d (machine s m₂ g o))
   unfolding step action
-  step-shared k e =
-      rw (← action-shared) (performed-found (action isa (machine s m₁ g o)) e (begun-governed _ k (chosen (s .core)) (ltb (chosen (s .core)) 16)))
+  step-shared d k e =
+      rw (← action-shared, ← duration-shared d) (performed-found (duration d (machine s m₁ g o)) (action isa (machine s m₁ g o)) e (begun-governed _ k (chosen (s .core)) (ltb (chosen (s .core)) 16)))
 
 -- ---- one step of any two machines that are compared
 
@@ -129,10 +134,10 @@ pub action-same : (isa : Isa) (x y : Machine) → Compared x y → action isa x 
 action-same isa x y c =
     shared (λ z. action isa x ≡ action isa z) x y (c .alike) (action-shared isa (x .state) (x .memory) (y .memory) (x .pages) (x .ports) (same-of x y c))
 
-pub step-found : (isa : Isa) (x y : Machine) → Compared x y → isEntry (action isa x) ≡ false → Found x y (step isa x) (step isa y)
-step-found isa x y c e =
-    shared (λ z. Found x z (step isa x) (step isa z)) x y (c .alike)
-    (step-shared isa (x .state) (x .memory) (y .memory) (x .pages) (x .ports) (same-of x y c) (c .keyed) e)
+pub step-found : (isa : Isa) (d : List ℕ) (x y : Machine) → Compared x y → isEntry (action isa x) ≡ false → Found x y (step isa d x) (step isa d y)
+step-found isa d x y c e =
+    shared (λ z. Found x z (step isa d x) (step isa d z)) x y (c .alike)
+    (step-shared isa (x .state) (x .memory) (y .memory) (x .pages) (x .ports) (same-of x y c) d (c .keyed) e)
 
 -- ---- a timeline of two machines that are compared: property 3 follows from this induction, for equal lists of runs and for unequal budgets
 
@@ -142,16 +147,16 @@ pub record Played (isa : Isa) (t : List Item) (x y : Machine) : Type 0 where
   pub found : entryIn isa t x ≡ none → Found x y (play isa t x) (play isa t y)
 
 -- the first item is a step, and known: an entry, or one that leads to such a pair again
-played-step : (isa : Isa) (t : List Item) (x y : Machine) → Compared x y → ((x' y' : Machine) → Compared x' y' → Played isa t x' y')
-    → (b : Bool) → isEntry (action isa x) ≡ b → Played isa (stepped ∷ t) x y
+played-step : (isa : Isa) (d : List ℕ) (t : List Item) (x y : Machine) → Compared x y → ((x' y' : Machine) → Compared x' y' → Played isa t x' y')
+    → (b : Bool) → isEntry (action isa x) ≡ b → Played isa (stepped d ∷ t) x y
 unfolding play entryIn
-played-step isa t x y c ih true e = record {
+played-step isa d t x y c ih true e = record {
   entry = rw (← action-same isa x y c, e) refl;
   found = λ h. some≢none 0 (rw e at h);
 }
-played-step isa t x y c ih false e =
-    let f : Found x y (step isa x) (step isa y) = step-found isa x y c e in
-    let p : Played isa t (step isa x) (step isa y) = ih (step isa x) (step isa y) (compared-again x y _ _ c f) in
+played-step isa d t x y c ih false e =
+    let f : Found x y (step isa d x) (step isa d y) = step-found isa d x y c e in
+    let p : Played isa t (step isa d x) (step isa d y) = ih (step isa d x) (step isa d y) (compared-again x y _ _ c f) in
     record {
       entry = rw (← action-same isa x y c, e) (ap (stepsLater 1) (p .entry));
       found = λ h. found-found x y _ _ _ _ f (p .found (later-none 1 _ (rw e at h)));
@@ -160,4 +165,4 @@ played-step isa t x y c ih false e =
 pub played : (isa : Isa) (t : List Item) (x y : Machine) → Compared x y → Played isa t x y
 unfolding play entryIn
 played isa [] x y c = record { entry = refl; found = λ h. found-start x y c }
-played isa (stepped ∷ t) x y c = played-step isa t x y c (λ x' y' c'. played isa t x' y' c') (isEntry (action isa x)) refl
+played isa (stepped d ∷ t) x y c = played-step isa d t x y c (λ x' y' c'. played isa t x' y' c') (isEntry (action isa x)) refl

@@ -5,8 +5,7 @@ use mathlib.Core.Bool.{Bool, true, false, cond}
 use mathlib.Core.List.{List, [], _∷_, _++_}
 use mathlib.Core.Option.{Option, none, some}
 use native.Mathlib.Omega.{arith}
-use native.Mathlib.Nat.{zero-add, suc-add}
-use lib.ListN.{replicate}
+use native.Mathlib.Nat.{zero-add}
 use Rattle.machine.specs.Machine.{Machine, Isa}
 use Rattle.machine.specs.Step.{isEntry, action, step}
 use Rattle.machine.specs.Timelines.{Item, stepped, stepsLater, play, entryIn}
@@ -47,39 +46,18 @@ here-first false e r = refl
 pub play-append : (isa : Isa) (t u : List Item) (x : Machine) → play isa (t ++ u) x ≡ play isa u (play isa t x)
 unfolding play
 play-append isa [] u x = refl
-play-append isa (stepped ∷ t) u x = play-append isa t u (step isa x)
+play-append isa (stepped d ∷ t) u x = play-append isa t u (step isa d x)
 
 -- how many steps a timeline has
 unfoldable pub stepsIn : List Item → ℕ
 stepsIn [] = 0
-stepsIn (stepped ∷ t) = suc (stepsIn t)
-
-pub steps-append : (t u : List Item) → stepsIn (t ++ u) ≡ stepsIn t + stepsIn u
-unfolding stepsIn
-steps-append [] u = sym (zero-add (stepsIn u))
-steps-append (stepped ∷ t) u = ap suc (steps-append t u) ∙ sym (suc-add (stepsIn t) (stepsIn u))
+stepsIn (stepped d ∷ t) = suc (stepsIn t)
 
 pub entry-append : (isa : Isa) (t u : List Item) (x : Machine) → entryIn isa (t ++ u) x ≡ firstOr (entryIn isa t x) (stepsLater (stepsIn t) (entryIn isa u (play isa t x)))
 unfolding entryIn play stepsIn firstOr
 entry-append isa [] u x = sym (later-zero _)
-entry-append isa (stepped ∷ t) u x =
-    let e : Option ℕ = entryIn isa t (step isa x) in
-    let r : Option ℕ = entryIn isa u (play isa t (step isa x)) in
-    ap (cond (isEntry (action isa x)) (some 0)) (ap (stepsLater 1) (entry-append isa t u (step isa x)) ∙ later-suc (stepsIn t) e r)
+entry-append isa (stepped d ∷ t) u x =
+    let e : Option ℕ = entryIn isa t (step isa d x) in
+    let r : Option ℕ = entryIn isa u (play isa t (step isa d x)) in
+    ap (cond (isEntry (action isa x)) (some 0)) (ap (stepsLater 1) (entry-append isa t u (step isa d x)) ∙ later-suc (stepsIn t) e r)
     ∙ here-first (isEntry (action isa x)) (stepsLater 1 e) (stepsLater (suc (stepsIn t)) r)
-
--- ---- timelines of steps alone
-
-pub steps-repeated : (n : ℕ) → stepsIn (replicate n stepped) ≡ n
-unfolding stepsIn
-steps-repeated zero = refl
-steps-repeated (suc n) = ap suc (steps-repeated n)
-
-only-steps : (t : List Item) → t ≡ replicate (stepsIn t) stepped
-unfolding stepsIn
-only-steps [] = refl
-only-steps (stepped ∷ t) = ap (stepped ∷_) (only-steps t)
-
--- two that have equally many steps are equal
-pub as-many : (t u : List Item) → stepsIn t ≡ stepsIn u → t ≡ u
-as-many t u e = only-steps t ∙ ap (λ (n : ℕ). replicate n stepped) e ∙ sym (only-steps u)

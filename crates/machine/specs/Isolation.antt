@@ -70,7 +70,7 @@ pub record Isolated (isa : Isa) (rs : List Run) (x y : Machine) : Type 0 where
   pub runs : beforeEntry isa rs x ≡ beforeEntry isa rs y
   pub before : Findings isa (beforeEntry isa rs x) x y
 
--- two lists of unequal budgets leave the same findings, answers aside
+-- two lists of unequal budgets whose timelines are equal, so that the durations are equal "step by step where the budgets differ", leave the same findings, answers aside
 pub record IsolatedApart (isa : Isa) (rs qs : List Run) (x y : Machine) : Type 0 where
   pub entry : firstEntry isa rs x ≡ firstEntry isa qs y
   pub found : firstEntry isa rs x ≡ none → Found x y (afterRuns isa rs x) (afterRuns isa qs y)

@@ -7,3 +7,4 @@ pub mod Step
 pub mod Timelines
 pub mod Runs
 pub mod Isolation
+pub mod OldTimers

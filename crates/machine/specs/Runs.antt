@@ -6,17 +6,18 @@ use mathlib.Core.Option.{Option, none, some}
 use lib.Dec.{eqb, leb}
 use lib.ListN.{length, replicate}
 use Rattle.machine.specs.declared.Answer.{Answer}
-use Rattle.machine.specs.declared.Answer.the-variants.{Spent, BadMemory, BadPages, BadPorts, BadBudget, BadCounter}
+use Rattle.machine.specs.declared.Answer.the-variants.{Spent, BadMemory, BadPages, BadPorts, BadDurations, BadBudget, BadCounter}
 use Rattle.machine.specs.Machine.{Machine, Isa}
 use Rattle.machine.specs.Timelines.{Item, stepped, play, entryIn}
 
 -- a run, by what its caller chooses besides the machine
 pub record Run : Type 0 where
   pub budget : ℕ
+  pub durations : List ℕ
 
--- the run of a budget
-abbrev pub runOf : ℕ → Run
-runOf budget = record { budget = budget }
+-- the run of a budget with durations
+abbrev pub runOf : ℕ → List ℕ → Run
+runOf budget d = record { budget = budget; durations = d }
 
 -- ---- the checks before a run, in their order
 
@@ -26,6 +27,7 @@ numberOf Spent = 0
 numberOf BadMemory = 1
 numberOf BadPages = 2
 numberOf BadPorts = 3
+numberOf BadDurations = 17
 numberOf BadBudget = 4
 numberOf BadCounter = 5
 
@@ -38,21 +40,22 @@ unfoldable pub asked : {A : Type 0} → Bool → A → A → A
 asked true out rest = rest
 asked false out rest = out
 
--- the answer to a run, from the sizes of memory, page registers and ports, the counter and the budget
-unfoldable pub admission : ℕ → ℕ → ℕ → ℕ → ℕ → Answer
-admission memory pages ports count budget =
+-- the answer to a run, from the sizes of memory, page registers, ports and durations, the counter and the budget; "17 when the list is not 257 long, after number 3 in running"
+unfoldable pub admission : ℕ → ℕ → ℕ → ℕ → ℕ → ℕ → Answer
+admission memory pages ports durations count budget =
     asked (wholePages memory) BadMemory
     (asked (eqb pages 512) BadPages
     (asked (eqb ports 1024) BadPorts
+    (asked (eqb durations 257) BadDurations
     (asked (leb budget 1000000) BadBudget
     (asked (leb (count + budget) 4294967295) BadCounter
-    Spent))))
+    Spent)))))
 
 -- ---- one run
 
 -- "Its answer is all it replies besides the state"
 unfoldable pub answerOf : Machine → Run → Answer
-answerOf x r = admission (length (x .memory)) (length (x .pages)) (length (x .ports)) (x .state .clock .count) (r .budget)
+answerOf x r = admission (length (x .memory)) (length (x .pages)) (length (x .ports)) (length (r .durations)) (x .state .clock .count) (r .budget)
 
 -- "An accepted run makes exactly its budget of steps"; a refused one makes none
 unfoldable pub stepsOf : Answer → ℕ → ℕ
@@ -62,9 +65,9 @@ stepsOf a budget = cond (eqb (numberOf a) 0) budget 0
 unfoldable pub made : Machine → Run → ℕ
 made x r = stepsOf (answerOf x r) (r .budget)
 
--- its items: these steps
+-- its items: these steps, each with its durations
 unfoldable pub items : Machine → Run → List Item
-items x r = replicate (made x r) stepped
+items x r = replicate (made x r) (stepped (r .durations))
 
 -- the run r comes before the rest, unless it has an entry
 unfoldable pub consUnless : Option ℕ → Run → List Run → List Run
@@ -72,9 +75,9 @@ consUnless none r rs = r ∷ rs
 consUnless (some k) r rs = []
 
 module _ (isa : Isa) where
-  -- n steps
-  unfoldable pub steps : ℕ → Machine → Machine
-  steps n x = play isa (replicate n stepped) x
+  -- n steps with the durations d
+  unfoldable pub steps : List ℕ → ℕ → Machine → Machine
+  steps d n x = play isa (replicate n (stepped d)) x
 
   -- what a run leaves
   unfoldable pub left : Machine → Run → Machine

@@ -1,10 +1,12 @@
 -- One step (Scope, "One step"), for any instruction set: what it does is found out first, as data; then it is done. Assumes nothing.
-use Prim.Native.Nat.{ℕ, _+_, _%_}
+use Prim.Native.Nat.{ℕ, _+_, _/_, _%_}
 use mathlib.Core.Bool.{Bool, true, false, cond, _&&_}
 use mathlib.Core.List.{List}
 use lib.Bits.{bitOr}
-use lib.Dec.{eqb, ltb}
-use lib.ListN.{length}
+use lib.Dec.{ltb, leb}
+use lib.ListN.{length, getD}
+use Rattle.page.specs.declared.Got.{Got}
+use Rattle.page.specs.declared.Got.the-variants.{Word, Missed}
 use Rattle.page.specs.declared.Span.{Span}
 use Rattle.page.specs.Spans.{wrapped, written}
 use Rattle.machine.specs.declared.State.{State}
@@ -12,7 +14,7 @@ use Rattle.machine.specs.declared.Core.{Core}
 use Rattle.machine.specs.declared.Clock.{Clock}
 use Rattle.machine.specs.declared.Vector.{Vector}
 use Rattle.bits.specs.Bits.{weight}
-use Rattle.machine.specs.State.{keyOf, groupOf, withCs, advanced, Processor, joined, processor, withProcessor, withCore, withClock, withIc, withPi, updated, withFt, withHold, withTa, withTb, withCount}
+use Rattle.machine.specs.State.{keyOf, groupOf, withCs, advanced, Processor, joined, processor, withProcessor, withCore, withClock, withIc, withPi, updated, withFt, withHold}
 use Rattle.machine.specs.Machine.{Machine, machine, Isa, Effect}
 use Rattle.machine.specs.Instructions.{Action, enter, call, fail, affect, govern, View, view, instructed}
 use Rattle.machine.specs.Entries.{chosen, vectorOf, callOf, linked, linkStored, refusalOf, arrived}
@@ -53,38 +55,73 @@ perform s m g o (fail b a) = machine (withCore s (faulted (s .core) b a)) m g o
 perform s m g o (affect e p) = machine (withProcessor s (affected (processor s) e)) (stored (s .core) m g e p) g o
 perform s m g o (govern r) = machine (r .state) m (r .pages) (r .ports)
 
--- ---- last: the counter, then the timers
+-- ---- last: the counter, then the timers, over the duration d of the step in tenths of a microsecond (change request 3)
 
 -- the counter after it rose; no accepted run lets it pass the end of its 32 bits
 unfoldable pub counted : Clock → ℕ
 counted k = (k .count + 1) % 4294967296
 
--- a running timer B rises when the counter, as it rose, is a multiple of 10
-unfoldable pub risesB : Clock → Bool
-risesB k = k .tbon && eqb (counted k % 10) 0
+-- the tenths of one rise: "A rises once per 100 tenths, B once per 1,000" (5.1: timer A counts 10 microseconds, timer B 100)
+abbrev pub unitA : ℕ
+unitA = 100
 
--- a timer, whether it rises or not
-unfoldable pub risen : Bool → ℕ → ℕ
-risen b t = cond b (wrapped (t + 1)) t
+abbrev pub unitB : ℕ
+unitB = 1000
 
--- PI bit n, where a timer passes FFFF to 0000
-unfoldable pub passing : Bool → ℕ → ℕ → ℕ
-passing b t n = cond (b && eqb t 65535) (weight n) 0
+-- how often a timer with the unit u and the remainder r rises in d tenths
+unfoldable pub rises : ℕ → ℕ → ℕ → ℕ
+rises u r d = (r + d) / u
+
+-- its remainder after them, where it runs; "halting keeps the remainder"
+unfoldable pub remaining : Bool → ℕ → ℕ → ℕ → ℕ
+remaining on u r d = cond on ((r + d) % u) r
+
+-- a timer at t that rises n times, where it runs
+unfoldable pub risen : Bool → ℕ → ℕ → ℕ
+risen on t n = cond on (wrapped (t + n)) t
+
+-- PI bit k, where it passes FFFF to 0000
+unfoldable pub passing : Bool → ℕ → ℕ → ℕ → ℕ
+passing on t n k = cond (on && leb 65536 (t + n)) (weight k) 0
 
 -- the clock at the end of a step
-unfoldable pub elapsed : Clock → Clock
-elapsed k = withTb (withTa (withCount k (counted k)) (risen (k .taon) (k .ta))) (risen (risesB k) (k .tb))
+unfoldable pub elapsed : ℕ → Clock → Clock
+elapsed d k =
+    record {
+      ta = risen (k .taon) (k .ta) (rises unitA (k .rema) d);
+      tb = risen (k .tbon) (k .tb) (rises unitB (k .remb) d);
+      rema = remaining (k .taon) unitA (k .rema) d;
+      remb = remaining (k .tbon) unitB (k .remb) d;
+      taon = k .taon;
+      tbon = k .tbon;
+      count = counted k;
+    }
 
 -- the PI bits of the timers that pass their end there
-unfoldable pub expired : Clock → ℕ
-expired k = bitOr (passing (k .taon) (k .ta) 7) (passing (risesB k) (k .tb) 9)
+unfoldable pub expired : ℕ → Clock → ℕ
+expired d k = bitOr (passing (k .taon) (k .ta) (rises unitA (k .rema) d) 7) (passing (k .tbon) (k .tb) (rises unitB (k .remb) d) 9)
 
 -- the state at the end of a step
-unfoldable pub ticked : State → State
-ticked s = withClock (withCore s (withPi (s .core) (bitOr (s .core .pi) (expired (s .clock))))) (elapsed (s .clock))
+unfoldable pub ticked : ℕ → State → State
+ticked d s = withClock (withCore s (withPi (s .core) (bitOr (s .core .pi) (expired d (s .clock))))) (elapsed d (s .clock))
 
-unfoldable pub tick : Machine → Machine
-tick x = machine (ticked (x .state)) (x .memory) (x .pages) (x .ports)
+unfoldable pub tick : ℕ → Machine → Machine
+tick d x = machine (ticked d (x .state)) (x .memory) (x .pages) (x .ports)
+
+-- ---- how long a step takes, by a list of 257 durations: "one per opcode and a last one for interrupt entry", which is number 256
+
+-- the number of its duration, by the first word: the high byte is the opcode, whatever comes of it. "A step that fetched no first word takes the entry's duration"
+unfoldable pub timedBy : Got → ℕ
+timedBy (Word w) = w / 256 % 256
+timedBy (Missed b) = 256
+
+-- by whether an interrupt is entered: then no word is fetched
+unfoldable pub timing : Core → View → Bool → ℕ
+timing c v true = 256
+timing c v false = timedBy (v .fetch (c .ic))
+
+unfoldable pub duration : List ℕ → Machine → ℕ
+duration d x = getD d (timing (x .state .core) (view (x .state .core) (x .memory) (x .pages)) (ltb (chosen (x .state .core)) 16)) 0
 
 -- ---- the step
 
@@ -108,6 +145,6 @@ module _ (isa : Isa) where
       let s = begunFrom (x .state) in
       begun s (x .pages) (x .ports) (view (s .core) (x .memory) (x .pages)) (chosen (x .state .core)) (ltb (chosen (x .state .core)) 16)
 
-  -- the hold mark is cleared for an instruction, and is clear already where an interrupt is entered
-  unfoldable pub step : Machine → Machine
-  step x = tick (perform (begunFrom (x .state)) (x .memory) (x .pages) (x .ports) (action x))
+  -- with the durations d; the hold mark is cleared for an instruction, and is clear already where an interrupt is entered
+  unfoldable pub step : List ℕ → Machine → Machine
+  step d x = tick (duration d x) (perform (begunFrom (x .state)) (x .memory) (x .pages) (x .ports) (action x))

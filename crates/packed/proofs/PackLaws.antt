@@ -12,7 +12,7 @@ use lib.ListN.{length, getD, set, take, replicate, length-set}
 use lib.Seq.{paste, paste-zero, paste-suc, length-take-le, take-all, take-length, drop-length, take-at, getD-append-add}
 use Rattle.packed.specs.Packed.{size, marks, marked, markAt, marksOf, withMarks, layout, unpacked, packed}
 use Rattle.machine.specs.declared.State.{State}
-use Rattle.machine.specs.State.{withIc, withSw, withMk, withPi, withFt, withEnabled, withHold, withTa, withTb, withTaOn, withTbOn, withCount}
+use Rattle.machine.specs.State.{withIc, withSw, withMk, withPi, withFt, withEnabled, withHold, withTa, withTb, withRemA, withRemB, withTaOn, withTbOn, withCount}
 use Rattle.bits.specs.Bits.{weight}
 
 -- ---- the list s copied into d from word `at` on, after i words
@@ -55,10 +55,12 @@ pub record Parts (w : List ℕ) (s : State) : Type 0 where
   pub tbon-is : s .clock .tbon ≡ marked (getD w 21 0) 12
   pub ta-is : s .clock .ta ≡ getD w 22 0
   pub tb-is : s .clock .tb ≡ getD w 23 0
+  pub rema-is : s .clock .rema ≡ getD w 24 0
+  pub remb-is : s .clock .remb ≡ getD w 25 0
   pub count-is : s .clock .count ≡ 65536 * getD w 32 0 + getD w 33 0
 
 pub from-parts : (w : List ℕ) (s : State) → Parts w s → s ≡ unpacked w
-unfolding unpacked layout marks withMarks withIc withSw withMk withPi withFt withEnabled withHold withTa withTb withTaOn withTbOn withCount
+unfolding unpacked layout marks withMarks withIc withSw withMk withPi withFt withEnabled withHold withTa withTb withRemA withRemB withTaOn withTbOn withCount
 from-parts w s h = λ i. record {
   regs = h .regs-is i;
   core = record {
@@ -73,6 +75,8 @@ from-parts w s h = λ i. record {
   clock = record {
     ta = h .ta-is i;
     tb = h .tb-is i;
+    rema = h .rema-is i;
+    remb = h .remb-is i;
     taon = h .taon-is i;
     tbon = h .tbon-is i;
     count = h .count-is i;
@@ -135,8 +139,8 @@ later a b h n = rw (← h) (getD-append-add a b n 0)
 -- the words after R0 to R15
 abbrev others : State → List ℕ
 others s =
-    (s .core .ic ∷ s .core .sw ∷ s .core .mk ∷ s .core .pi ∷ s .core .ft ∷ marksOf s ∷ s .clock .ta ∷ s .clock .tb ∷ [])
-    ++ (replicate 8 0 ++ ((s .clock .count / 65536 ∷ s .clock .count % 65536 ∷ []) ++ replicate 222 0))
+    (s .core .ic ∷ s .core .sw ∷ s .core .mk ∷ s .core .pi ∷ s .core .ft ∷ marksOf s ∷ s .clock .ta ∷ s .clock .tb ∷ s .clock .rema ∷ s .clock .remb ∷ [])
+    ++ (replicate 6 0 ++ ((s .clock .count / 65536 ∷ s .clock .count % 65536 ∷ []) ++ replicate 222 0))
 
 -- a state with sixteen registers
 pub registers-first : (s : State) → length (s .regs) ≡ 16 → packed s ≡ s .regs ++ others s
@@ -168,6 +172,8 @@ unpacked-packed s h =
       tbon-is = bit 12 (s .clock .tbon) (omega (arith, digit-below (s .clock .tbon)));
       ta-is = at 6;
       tb-is = at 7;
+      rema-is = at 8;
+      remb-is = at 9;
       count-is = omega arith;
     }))
 
@@ -178,7 +184,7 @@ one-more m c h = mod-mul m (omega arith) h ∙ add-comm _ _ ∙ ap (λ n. m % c 
 -- 256 words: what no part has is cleared, and bits 0 to 11 of the marks
 module _ (w : List ℕ) where
   marks-cleared : marksOf (unpacked w) ≡ getD w 21 0 % 16
-  unfolding unpacked layout marks withMarks marked withIc withSw withMk withPi withFt withEnabled withHold withTa withTb withTaOn withTbOn withCount
+  unfolding unpacked layout marks withMarks marked withIc withSw withMk withPi withFt withEnabled withHold withTa withTb withRemA withRemB withTaOn withTbOn withCount
   marks-cleared =
       let m = getD w 21 0 in
       marks-digits (unpacked w) ∙ rw (bit-digit m 15, bit-digit m 14, bit-digit m 13, bit-digit m 12) (rw (one-more m 8 (omega arith), one-more m 4 (omega arith), one-more m 2 (omega arith), div-one m) refl)
@@ -186,9 +192,9 @@ module _ (w : List ℕ) where
   pub packed-unpacked : length w ≡ size → getD w 33 0 < 65536
       → packed (unpacked w)
       ≡ take 16 w
-      ++ ((getD w 16 0 ∷ getD w 17 0 ∷ getD w 18 0 ∷ getD w 19 0 ∷ getD w 20 0 ∷ getD w 21 0 % 16 ∷ getD w 22 0 ∷ getD w 23 0 ∷ [])
-      ++ (replicate 8 0 ++ ((getD w 32 0 ∷ getD w 33 0 ∷ []) ++ replicate 222 0)))
-  unfolding unpacked layout marks withMarks withIc withSw withMk withPi withFt withEnabled withHold withTa withTb withTaOn withTbOn withCount
+      ++ ((getD w 16 0 ∷ getD w 17 0 ∷ getD w 18 0 ∷ getD w 19 0 ∷ getD w 20 0 ∷ getD w 21 0 % 16 ∷ getD w 22 0 ∷ getD w 23 0 ∷ getD w 24 0 ∷ getD w 25 0 ∷ [])
+      ++ (replicate 6 0 ++ ((getD w 32 0 ∷ getD w 33 0 ∷ []) ++ replicate 222 0)))
+  unfolding unpacked layout marks withMarks withIc withSw withMk withPi withFt withEnabled withHold withTa withTb withRemA withRemB withTaOn withTbOn withCount
   packed-unpacked l h =
       let n = getD w 32 0 in
       let k = getD w 33 0 in

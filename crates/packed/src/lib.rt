@@ -30,6 +30,10 @@ const TIMER_A: usize = 22;
 
 const TIMER_B: usize = 23;
 
+const REMAINDER_A: usize = 24;
+
+const REMAINDER_B: usize = 25;
+
 const COUNTER: usize = 32;
 // The marks, by the weights of their bits.
 const ENABLED: u16 = 1;
@@ -104,6 +108,8 @@ pub fn unpack(words: &[u16]) -> State
     let clock = Clock {
         ta: words[TIMER_A],
         tb: words[TIMER_B],
+        rema: words[REMAINDER_A],
+        remb: words[REMAINDER_B],
         taon: marked(on, A_RUNS),
         tbon: marked(on, B_RUNS),
         count: 65536 * wide(words[COUNTER]) + wide(words[COUNTER + 1]),
@@ -125,6 +131,8 @@ pub fn pack(s: State, words: &mut [u16])
     all[MARKS] = marks(s);
     all[TIMER_A] = s.clock.ta;
     all[TIMER_B] = s.clock.tb;
+    all[REMAINDER_A] = s.clock.rema;
+    all[REMAINDER_B] = s.clock.remb;
     all[COUNTER] = (s.clock.count / 65536) as u16;
     all[COUNTER + 1] = (s.clock.count % 65536) as u16;
     let regs = s.regs;

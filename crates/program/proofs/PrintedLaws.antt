@@ -6,13 +6,13 @@ use lib.ListN.{length}
 use borrow.Author.Tests.{eq-eqb, ne-eqb, le-leb, lt-leb}
 use Rattle.machine.specs.declared.State.{State}
 use Rattle.machine.specs.Machine.{Machine, machine, Became}
-use Rattle.machine.specs.Runs.{runOf, left}
+use Rattle.machine.specs.Runs.{left}
 use Rattle.isa.specs.Mil1750.{mil1750}
 use Rattle.machine.proofs.MachineLaws.{became-machine}
 use Rattle.image.specs.declared.Loading.{Loading}
 use Rattle.image.specs.Image as image
 use Rattle.report.specs.Report.{refusalOf}
-use Rattle.program.specs.Printed.{unless, lengthNumber, loadNumber, started, ranText, printed, afterwards, Holds}
+use Rattle.program.specs.Printed.{theRun, unless, lengthNumber, loadNumber, started, ranText, printed, afterwards, Holds}
 
 -- a machine holds its own lists, and what became of another
 pub holds-own : (x y : Machine) → y ≡ x → Holds y (x .memory) (x .pages) (x .ports)
@@ -47,7 +47,7 @@ pub refused-left : (b : List ℕ) (x : Machine) (n : ℕ) → length b ≤ 32768
 unfolding afterwards lengthNumber
 refused-left b x n h e z = rw (le-leb _ _ h, ← e, ne-eqb _ _ z) refl
 
-pub accepted-left : (b : List ℕ) (x : Machine) (n : ℕ) → length b ≤ 32768 → n ≡ loadNumber b → n ≡ 0 → afterwards b x ≡ left mil1750 (started b) (runOf 1000)
+pub accepted-left : (b : List ℕ) (x : Machine) (n : ℕ) → length b ≤ 32768 → n ≡ loadNumber b → n ≡ 0 → afterwards b x ≡ left mil1750 (started b) theRun
 unfolding afterwards lengthNumber
 accepted-left b x n h e z = rw (le-leb _ _ h, ← e, eq-eqb _ _ z) refl
 

@@ -3,9 +3,9 @@ use Prim.Native.Nat.{ℕ}
 use mathlib.Core.Bool.{cond}
 use mathlib.Core.List.{List}
 use lib.Dec.{eqb, leb}
-use lib.ListN.{length}
+use lib.ListN.{length, replicate}
 use Rattle.machine.specs.Machine.{Machine, Became}
-use Rattle.machine.specs.Runs.{runOf, numberOf, answerOf, left}
+use Rattle.machine.specs.Runs.{Run, runOf, numberOf, answerOf, left}
 use Rattle.isa.specs.Mil1750.{mil1750}
 use Rattle.image.specs.Image as image
 use Rattle.report.specs.Report.{reportOf, refusalOf}
@@ -30,9 +30,13 @@ loadNumber b = image.numberOf (image.admission b 16384 512 1024)
 abbrev pub started : List ℕ → Machine
 started b = image.loaded b 16384 512 1024
 
--- the text after a run on the machine x
+-- the run that it makes: 100 tenths for every duration
+abbrev pub theRun : Run
+theRun = runOf budget (replicate 257 100)
+
+-- the text after it on the machine x
 unfoldable pub ranText : Machine → List ℕ
-ranText x = unless (numberOf (answerOf x (runOf budget))) (reportOf budget (left mil1750 x (runOf budget) .state))
+ranText x = unless (numberOf (answerOf x theRun)) (reportOf budget (left mil1750 x theRun .state))
 
 -- the program: the length, the loader's questions, the run
 unfoldable pub printed : List ℕ → List ℕ
@@ -40,7 +44,7 @@ printed b = unless (lengthNumber b) (unless (loadNumber b) (ranText (started b))
 
 -- the machine after it, from the machine x that it holds: a refusal leaves that as it was
 unfoldable pub afterwards : List ℕ → Machine → Machine
-afterwards b x = cond (eqb (lengthNumber b) 0) (cond (eqb (loadNumber b) 0) (left mil1750 (started b) (runOf budget)) x) x
+afterwards b x = cond (eqb (lengthNumber b) 0) (cond (eqb (loadNumber b) 0) (left mil1750 (started b) theRun) x) x
 
 -- memory, page registers and ports are those of the machine x
 abbrev pub Holds : Machine → List ℕ → List ℕ → List ℕ → Type 0

@@ -2,12 +2,12 @@
 ghost use Rattle.text.specs.Texts.{Text};
 ghost use Rattle.machine.specs.declared.State.{State};
 ghost use Rattle.machine.specs.Machine.{machine};
-ghost use Rattle.machine.specs.Runs.{runOf, left};
+ghost use Rattle.machine.specs.Runs.{left};
 ghost use Rattle.isa.specs.Mil1750.{mil1750};
-ghost use Rattle.program.specs.Printed.{printed, ranText, afterwards, Holds};
+ghost use Rattle.program.specs.Printed.{theRun, printed, ranText, afterwards, Holds};
 use machine::State;
 
-// A run of 1,000 steps, and its report.
+// A run of 1,000 steps, each of 100 tenths of a microsecond, and its report.
 fn run_and_report(
     s: State,
     memory: &mut [u16],
@@ -16,9 +16,10 @@ fn run_and_report(
     out: &mut [u8; 256],
 ) -> usize
     ensures { λ r. ⌜ Text (now (out .entry)) (ranText (machine s (now (memory .entry)) (now (pages .entry)) (now (ports .entry)))) (now (out .exit)) r
-        × Holds (left mil1750 (machine s (now (memory .entry)) (now (pages .entry)) (now (ports .entry))) (runOf 1000)) (now (memory .exit)) (now (pages .exit)) (now (ports .exit)) ⌝ }
+        × Holds (left mil1750 (machine s (now (memory .entry)) (now (pages .entry)) (now (ports .entry))) theRun) (now (memory .exit)) (now (pages .exit)) (now (ports .exit)) ⌝ }
 {
-    let ran = run::run(s, memory, pages, ports, 1000);
+    let durations = [100u16; 257];
+    let ran = run::run(s, memory, pages, ports, &durations, 1000);
     let answer = ran.answer;
     let refused = run::number(answer) as u32;
     if refused != 0 {

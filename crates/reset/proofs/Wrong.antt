@@ -9,6 +9,8 @@ unfolding resetState
 rows =
     -- reset_state: interrupts are enabled; timer B does not run
     some (flag (resetState .core .enabled) ∷ flag (resetState .clock .taon) ∷ flag (resetState .clock .tbon) ∷ []) (0 ∷ 1 ∷ 1 ∷ []) (1 ∷ 1 ∷ 1 ∷ []) (0 ∷ 1 ∷ 0 ∷ [])
+    -- reset_state: the remainder of timer A is 1; the remainder of timer B is 1
+    ∷ some (resetState .clock .rema ∷ resetState .clock .remb ∷ []) (0 ∷ 0 ∷ []) (1 ∷ 0 ∷ []) (0 ∷ 1 ∷ [])
     ∷ []
 
 pub rows-hold : T (hold rows)

@@ -37,6 +37,8 @@ pub fn reset_state() -> State
     let clock = Clock {
         ta: 0,
         tb: 0,
+        rema: 0,
+        remb: 0,
         taon: true,
         tbon: true,
         count: 0,

@@ -1,28 +1,27 @@
 -- Property 3 of what calls of `run` return and leave: from `run`'s contract, and from the theorem about the definitions that it cites. Assumes nothing.
-use Prim.Native.Nat.{ℕ, zero, suc, _+_}
+use Prim.Native.Nat.{ℕ, zero, suc}
 use mathlib.Core.Path.{_≡_, refl, sym, ap, ap₂, _∙_, subst}
-use mathlib.Core.List.{List, [], _∷_}
+use mathlib.Core.List.{List, [], _∷_, _++_}
 use mathlib.Core.Option.{Option, none, some}
 use lib.ListN.{length, take}
 use Rattle.machine.specs.Machine.{Machine, machine}
 use Rattle.machine.specs.Timelines.{entryIn}
-use Rattle.machine.specs.Runs.{Run, runOf, made, items, consUnless, left, answers, afterRuns, firstEntry, beforeEntry}
+use Rattle.machine.specs.Runs.{Run, runOf, made, items, consUnless, left, answers, afterRuns, timeline, firstEntry, beforeEntry}
 use Rattle.machine.specs.Isolation.{Compared, Findings, Isolated, IsolatedApart}
 use Rattle.machine.proofs.MachineLaws.{became-machine}
-use Rattle.machine.proofs.RunLaws.{total, total-nil, total-cons}
 use Rattle.machine.proofs.Isolation as machines
 use Rattle.isa.specs.Mil1750.{mil1750}
 use Rattle.run.proofs.run.Reads as reads
-use Rattle.run.specs.Calls.{Call, Ensured, resulting, EachEnsured, runsOf, replies, stepsMade, final, callsBefore, unentered, CallsFound, CallsIsolated, CallsIsolatedApart}
+use Rattle.run.specs.Calls.{Call, Ensured, resulting, EachEnsured, runsOf, replies, timelineOf, final, callsBefore, unentered, CallsFound, CallsIsolated, CallsIsolatedApart}
 
 -- ---- the contract
 
--- `Ensured` is what a caller learns by `run`'s contract, from what is given (the state, memory, page registers, ports, the budget), what is returned, and the three lists at the end
+-- `Ensured` is what a caller learns by `run`'s contract, from what is given (the state, memory, page registers, ports, durations, the budget), what is returned, and the three lists at the end
 pub contract : (κs : _) (given : _) (returned : _) (end : _)
     → _≡_ {A = Type 0} (reads.Learnt κs given returned end)
     (Ensured (machine (given .0) (given .1 .0 .now) (given .1 .1 .0 .now) (given .1 .1 .1 .0 .now))
     (record {
-      run = runOf (given .1 .1 .1 .1 .0);
+      run = runOf (given .1 .1 .1 .1 .1 .0) (given .1 .1 .1 .1 .0 .now);
       answer = returned .answer;
       state = returned .state;
       memory = end .1 .0 .now;
@@ -33,21 +32,21 @@ contract κs given returned end = refl
 
 -- ---- what calls return and leave is what their runs give
 
--- answers, steps, and the machine at the end
+-- answers, timeline, and the machine at the end
 record AsRuns (x : Machine) (cs : List Call) : Type 0 where
   replies-are : replies cs ≡ answers mil1750 (runsOf cs) x
-  steps-are : stepsMade cs ≡ total mil1750 (runsOf cs) x
+  timeline-is : timelineOf cs ≡ timeline mil1750 (runsOf cs) x
   final-is : final x cs ≡ afterRuns mil1750 (runsOf cs) x
 
 as-runs : (x : Machine) (cs : List Call) → EachEnsured x cs → AsRuns x cs
-unfolding answers afterRuns made
-as-runs x [] e = record { replies-are = refl; steps-are = sym (total-nil mil1750 x); final-is = refl }
+unfolding answers afterRuns timeline items made
+as-runs x [] e = record { replies-are = refl; timeline-is = refl; final-is = refl }
 as-runs x (c ∷ cs) e =
     let l : resulting c ≡ left mil1750 x (c .run) = became-machine (e .0 .1) in
     let r : AsRuns (resulting c) cs = as-runs (resulting c) cs (e .1) in
     record {
       replies-are = ap₂ _∷_ (e .0 .0) (r .replies-are ∙ ap (answers mil1750 (runsOf cs)) l);
-      steps-are = rw (e .0 .0, total-cons mil1750 (c .run) (runsOf cs) x) (ap₂ _+_ refl (r .steps-are ∙ ap (total mil1750 (runsOf cs)) l));
+      timeline-is = rw (e .0 .0) (ap (items x (c .run) ++_) (r .timeline-is ∙ ap (timeline mil1750 (runsOf cs)) l));
       final-is = r .final-is ∙ ap (afterRuns mil1750 (runsOf cs)) l;
     }
 
@@ -101,10 +100,10 @@ isolated x y cs ds c e f b =
           (subst (λ (l : List Run). Findings mil1750 l x y) (sym (unentered-runs x cs)) (i .before));
     }
 
--- calls with unequal budgets that make equally many steps
-pub isolated-apart : (x y : Machine) (cs ds : List Call) → Compared x y → EachEnsured x cs → EachEnsured y ds → stepsMade cs ≡ stepsMade ds → CallsIsolatedApart x y cs ds
+-- calls with unequal budgets that make equally many steps, with the same durations step by step
+pub isolated-apart : (x y : Machine) (cs ds : List Call) → Compared x y → EachEnsured x cs → EachEnsured y ds → timelineOf cs ≡ timelineOf ds → CallsIsolatedApart x y cs ds
 isolated-apart x y cs ds c e f n =
     let i : IsolatedApart mil1750 (runsOf cs) (runsOf ds) x y =
-    machines.isolated-equally mil1750 (runsOf cs) (runsOf ds) x y c (sym (as-runs x cs e .steps-are) ∙ n ∙ as-runs y ds f .steps-are)
+    machines.isolated-apart mil1750 (runsOf cs) (runsOf ds) x y c (sym (as-runs x cs e .timeline-is) ∙ n ∙ as-runs y ds f .timeline-is)
     in
     record { entry = i .entry; found = λ h. rw (as-runs x cs e .final-is, as-runs y ds f .final-is) (i .found h) }

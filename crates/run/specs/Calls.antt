@@ -1,13 +1,14 @@
 -- Calls of `run::run` one after another, and property 3 of what they return and leave (the Scope's "Two machines compared"). The words of the claim are those of
 -- `machine/specs/Isolation`; here they are said of the answers, states and lists that the caller gets. Assumes nothing.
-use Prim.Native.Nat.{ℕ, _+_}
+use Prim.Native.Nat.{ℕ}
 use mathlib.Core.Path.{_≡_}
-use mathlib.Core.List.{List, [], _∷_, map}
+use mathlib.Core.List.{List, [], _∷_, _++_, map}
 use mathlib.Core.Option.{none}
-use lib.ListN.{length, take}
+use lib.ListN.{length, take, replicate}
 use Rattle.machine.specs.declared.Answer.{Answer}
 use Rattle.machine.specs.declared.State.{State}
 use Rattle.machine.specs.Machine.{Machine, machine, Became}
+use Rattle.machine.specs.Timelines.{Item, stepped}
 use Rattle.machine.specs.Runs.{Run, answerOf, left, stepsOf, firstEntry, beforeEntry}
 use Rattle.machine.specs.Isolation.{Found}
 use Rattle.isa.specs.Mil1750.{mil1750}
@@ -43,10 +44,10 @@ runsOf cs = map (λ c. c .run) cs
 abbrev pub replies : List Call → List Answer
 replies cs = map (λ c. c .answer) cs
 
--- their steps: the budget of each that was not refused
-abbrev pub stepsMade : List Call → ℕ
-stepsMade [] = 0
-stepsMade (c ∷ cs) = stepsOf (c .answer) (c .run .budget) + stepsMade cs
+-- their timeline: as many steps as the budget of each that was not refused says, with its durations
+abbrev pub timelineOf : List Call → List Item
+timelineOf [] = []
+timelineOf (c ∷ cs) = replicate (stepsOf (c .answer) (c .run .budget)) (stepped (c .run .durations)) ++ timelineOf cs
 
 -- the machine that the last one returned and left
 abbrev pub final : Machine → List Call → Machine
@@ -67,7 +68,7 @@ pub record CallsFound (x y : Machine) (cs ds : List Call) : Type 0 where
   pub answers-same : replies cs ≡ replies ds
   pub found : Found x y (final x cs) (final y ds)
 
--- with the same list of runs: field by field `Isolated`, of these calls
+-- with the same list of runs, durations included: field by field `Isolated`, of these calls
 pub record CallsIsolated (x y : Machine) (cs ds : List Call) : Type 0 where
   -- the first entry is at the same step of the list in both, or in neither
   pub entry : firstEntry mil1750 (runsOf cs) x ≡ firstEntry mil1750 (runsOf ds) y
@@ -77,7 +78,7 @@ pub record CallsIsolated (x y : Machine) (cs ds : List Call) : Type 0 where
   pub calls : callsBefore x cs ≡ callsBefore y ds
   pub before : CallsFound x y (unentered x cs) (unentered y ds)
 
--- with unequal budgets: the same findings, answers aside
+-- with unequal budgets and the same durations step by step: the same findings, answers aside
 pub record CallsIsolatedApart (x y : Machine) (cs ds : List Call) : Type 0 where
   pub entry : firstEntry mil1750 (runsOf cs) x ≡ firstEntry mil1750 (runsOf ds) y
   pub found : firstEntry mil1750 (runsOf cs) x ≡ none → Found x y (final x cs) (final y ds)

@@ -1,13 +1,13 @@
 -- A new case, its run on the words that it is lent, and its text. Assumes nothing.
 use Prim.Native.Nat.{ℕ, _+_, _%_, _<_, min}
-use mathlib.Core.Bool.{cond}
+use mathlib.Core.Bool.{Bool, false, cond}
 use mathlib.Core.List.{List, _++_}
-use mathlib.Core.Path.{_≡_, refl, sym, ap, _∙_}
+use mathlib.Core.Path.{_≡_, refl, sym, ap, ap₂, _∙_}
 use native.Mathlib.Nat.{lt-of-not-le}
 use native.Mathlib.Decide.{decLe}
 use native.Mathlib.Omega.{arith}
 use lib.Dec.{eqb}
-use lib.ListN.{length, take, drop, drop-of-length-le}
+use lib.ListN.{length, take, drop, drop-of-length-le, replicate}
 use lib.Seq.{take-all, take-length, drop-length}
 use Rattle.machine.specs.declared.State.{State}
 use Rattle.machine.specs.declared.Answer.{Answer}
@@ -18,7 +18,7 @@ use Rattle.isa.specs.Mil1750.{mil1750}
 use Rattle.reset.specs.Reset.{resetMachine}
 use Rattle.test_case.specs.declared.Lengths.{Lengths}
 use Rattle.test_case.specs.Session.{oneMore}
-use Rattle.test_case.specs.Case.{Case, lengths, case, fresh, lent, rejoined, ran, changes, stateLines, caseText}
+use Rattle.test_case.specs.Case.{Case, lengths, case, fresh, lent, caseRun, rejoined, ran, changes, stateLines, caseText}
 
 -- the number after n
 pub one-more : (n r : ℕ) → r ≡ (n + 1) % 4294967296 → r ≡ oneMore n
@@ -28,9 +28,9 @@ one-more n r e = e
 -- after reset of lists of these sizes
 module _ (m₀ g₀ o₀ : List ℕ) (memory : length m₀ ≡ 16384) (pages : length g₀ ≡ 512) (ports : length o₀ ≡ 1024) where
   pub fresh-is : {s : State} {m g o : List ℕ} → Became (resetMachine (length m₀) (length g₀) (length o₀)) s m g o
-      → case (machine s m g o) (lengths 16384 512 1024) ≡ fresh
+      → case (machine s m g o) (replicate 257 100) (lengths 16384 512 1024 257) false ≡ fresh
   unfolding fresh
-  fresh-is b = ap (λ x. case x (lengths 16384 512 1024)) (became-machine b ∙ rw (memory, pages, ports) refl)
+  fresh-is b = ap (λ x. case x (replicate 257 100) (lengths 16384 512 1024 257) false) (became-machine b ∙ rw (memory, pages, ports) refl)
 
 -- the first k words of a list, and the others, where k is the smaller of n and their number
 module _ (n k : ℕ) (l : List ℕ) (least : k ≡ min n (length l)) where
@@ -47,20 +47,24 @@ module _ (n k : ℕ) (l : List ℕ) (least : k ≡ min n (length l)) where
   ]
 
 -- a run that is lent so many words of each list
-module _ (s : State) (m g o : List ℕ) (l : Lengths) (b i j k : ℕ)
-    (memory : i ≡ min (l .memory) (length m)) (pages : j ≡ min (l .pages) (length g)) (ports : k ≡ min (l .ports) (length o)) where
-  part-is : machine s (take i m) (take j g) (take k o) ≡ lent (case (machine s m g o) l)
+module _ (s : State) (m g o d : List ℕ) (l : Lengths) (t : Bool) (b i j k n : ℕ)
+    (memory : i ≡ min (l .memory) (length m)) (pages : j ≡ min (l .pages) (length g)) (ports : k ≡ min (l .ports) (length o)) (durations : n ≡ min (l .durations) (length d)) where
+  part-is : machine s (take i m) (take j g) (take k o) ≡ lent (case (machine s m g o) d l t)
   unfolding lent
   part-is = rw (first-words _ _ _ memory, first-words _ _ _ pages, first-words _ _ _ ports) refl
 
-  pub answer-is : {a : Answer} → a ≡ answerOf (machine s (take i m) (take j g) (take k o)) (runOf b) → a ≡ answerOf (lent (case (machine s m g o) l)) (runOf b)
-  answer-is e = e ∙ ap (λ x. answerOf x (runOf b)) part-is
+  run-is : runOf b (take n d) ≡ caseRun (case (machine s m g o) d l t) b
+  run-is = ap (runOf b) (first-words _ _ _ durations)
 
-  pub ran-is : {s' : State} {m' g' o' : List ℕ} → Became (left mil1750 (machine s (take i m) (take j g) (take k o)) (runOf b)) s' m' g' o'
-      → Became (ran (case (machine s m g o) l) b) s' (m' ++ drop i m) (g' ++ drop j g) (o' ++ drop k o)
+  pub answer-is : {a : Answer} → a ≡ answerOf (machine s (take i m) (take j g) (take k o)) (runOf b (take n d))
+      → a ≡ answerOf (lent (case (machine s m g o) d l t)) (caseRun (case (machine s m g o) d l t) b)
+  answer-is e = e ∙ ap₂ answerOf part-is run-is
+
+  pub ran-is : {s' : State} {m' g' o' : List ℕ} → Became (left mil1750 (machine s (take i m) (take j g) (take k o)) (runOf b (take n d))) s' m' g' o'
+      → Became (ran (case (machine s m g o) d l t) b) s' (m' ++ drop i m) (g' ++ drop j g) (o' ++ drop k o)
   unfolding ran rejoined
   ran-is h =
-      let y = ap (λ x. left mil1750 x (runOf b)) part-is in
+      let y = ap₂ (left mil1750) part-is run-is in
       record {
         state-is = h .state-is ∙ ap (λ z. z .state) y;
         memory-is = rw (h .memory-is, other-words _ _ _ memory) (ap (λ z. z .memory ++ drop (l .memory) m) y);
@@ -69,8 +73,8 @@ module _ (s : State) (m g o : List ℕ) (l : Lengths) (b i j k : ℕ)
       }
 
 -- the text of a case, from the parts of what its run hands back and leaves
-pub text-is : (n b : ℕ) (c : Case) {a : Answer} {k j : ℕ} {s : State} {m g o : List ℕ} → a ≡ answerOf (lent c) (runOf b) → k ≡ numberOf a → j ≡ cond (eqb k 0) b 0
+pub text-is : (n b : ℕ) (c : Case) {a : Answer} {k j : ℕ} {s : State} {m g o : List ℕ} → a ≡ answerOf (lent c) (caseRun c b) → k ≡ numberOf a → j ≡ cond (eqb k 0) b 0
     → Became (ran c b) s m g o
-    → stateLines n k j s ++ (changes 77 (c .before .memory) m ++ (changes 80 (c .before .pages) g ++ changes 79 (c .before .ports) o)) ≡ caseText n b c
+    → stateLines n k j (c .timed) s ++ (changes 77 (c .before .memory) m ++ (changes 80 (c .before .pages) g ++ changes 79 (c .before .ports) o)) ≡ caseText n b c
 unfolding caseText made stepsOf
 text-is n b c e f h w = rw (h, f, e, w .state-is, w .memory-is, w .pages-is, w .ports-is) refl

@@ -15,7 +15,7 @@ unfolding digit hex entryLine changeLine changesTo changes
 changed-words = refl
 
 -- "L 0002 0003": three ports
-three-ports : lending (lengths 16384 512 1024) 2 3 ≡ lengths 16384 512 3
+three-ports : lending (lengths 16384 512 1024 257) 2 3 ≡ lengths 16384 512 3 257
 unfolding lending
 three-ports = refl
 

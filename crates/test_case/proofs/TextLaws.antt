@@ -10,10 +10,10 @@ use lib.ListN.{length, take, getD, length-append}
 use borrow.Author.Tests.{eq-eqb, ne-eqb}
 use Rattle.machine.specs.declared.State.{State}
 use Rattle.machine.specs.declared.Core.{Core}
-use Rattle.text.specs.Texts.{hex, leading, decimal, numberedLine, Wrote, Text}
+use Rattle.text.specs.Texts.{bytesOf, hex, leading, decimal, numberedLine, Wrote, Text}
 use Rattle.text.proofs.WroteLaws.{then, shown}
 use Rattle.report.specs.Report.{stepsLine, named, controlLine, registers, registersLine, reportOf}
-use Rattle.test_case_line.specs.Texts.{caseLine, timeLine, entryLine}
+use Rattle.test_case_line.specs.Texts.{caseLine, timeLine, remainderLine, entryLine}
 use Rattle.test_case.specs.Case.{changeLine, changesTo, changes}
 
 -- a line that was made in a buffer of its own
@@ -47,6 +47,10 @@ case-short n answer = simp length-append (omega (arith, decimal-short n, decimal
 pub time-short : (s : State) → length (timeLine s) ≤ 44
 unfolding timeLine hex
 time-short s = simp length-append (omega (arith, decimal-short (s .clock .count)))
+
+pub remainder-short : (s : State) → length (remainderLine s) ≤ 33
+unfolding remainderLine bytesOf
+remainder-short s = simp length-append (omega (arith, decimal-short (s .clock .rema), decimal-short (s .clock .remb)))
 
 control-long : (c : Core) → length (controlLine c) ≡ 40
 unfolding controlLine named hex

@@ -12,7 +12,7 @@ use Rattle.text.specs.Texts.{digit, hex, leading, decimal, numberedLine, digitO
 use Rattle.report.specs.Report.{stepsLine, reportOf}
 use Rattle.test_case_line.specs.Lines.{sizeOf, limitOf, entryOf, lineOf}
 use Rattle.test_case_line.specs.Texts.{caseLine}
-use Rattle.test_case.specs.Case.{fresh, lending, changed, entered, lent, rejoined, ran, stateLines, caseText}
+use Rattle.test_case.specs.Case.{fresh, lending, withDuration, changed, entered, lent, rejoined, ran, stateLines, caseText}
 use Rattle.test_case.specs.Session.{Session, Heard, oneMore, begun, withEntry, onRun, onEntry, onLine, nextLine, onEnd, withByte, onByte, onLast, saidIf, closing}
 
 -- opens the definitions of readings at once, and those of cases and of texts
@@ -21,7 +21,7 @@ unfolding digitOf given wordOf sizeOf limitOf entryOf lineOf oneMore begun withE
 readings = tt
 
 unfoldable cases : Unit {0}
-unfolding cycle resetPages resetMachine leading decimal stepsLine reportOf caseLine numberedLine fresh lending changed entered lent rejoined ran stateLines caseText
+unfolding cycle resetPages resetMachine leading decimal stepsLine reportOf caseLine numberedLine fresh lending withDuration changed entered lent rejoined ran stateLines caseText
 cases = tt
 
 -- the reading after so many lines and cases, with eleven bytes of a line: a kind letter, two blanks, and the last digit of a number and of a word, whose other digits are 0
@@ -36,9 +36,9 @@ at x k n w =
       present = x .present;
     }
 
--- the words of memory, page registers and ports that the present case lends
+-- the words of memory, page registers, ports and durations that the present case lends
 abbrev lends : Session → List ℕ
-lends x = let l = x .present .lengths in l .memory ∷ l .pages ∷ l .ports ∷ []
+lends x = let l = x .present .lengths in l .memory ∷ l .pages ∷ l .ports ∷ l .durations ∷ []
 
 -- the second word of memory, page register and port of the present case
 abbrev seconds : Session → List ℕ
@@ -48,9 +48,12 @@ pub rows : List Row
 unfolding machinery readings cases
 rows =
     -- input::begin: the lines before the case taken for the cases before it; all words of memory but the last lent
-    some (let x = begun 3 5 in x .lines ∷ x .cases ∷ lends x) (3 ∷ 5 ∷ 16384 ∷ 512 ∷ 1024 ∷ []) (5 ∷ 3 ∷ 16384 ∷ 512 ∷ 1024 ∷ []) (3 ∷ 5 ∷ 16383 ∷ 512 ∷ 1024 ∷ [])
+    some (let x = begun 3 5 in x .lines ∷ x .cases ∷ lends x) (3 ∷ 5 ∷ 16384 ∷ 512 ∷ 1024 ∷ 257 ∷ []) (5 ∷ 3 ∷ 16384 ∷ 512 ∷ 1024 ∷ 257 ∷ []) (3 ∷ 5 ∷ 16383 ∷ 512 ∷ 1024 ∷ 257 ∷ [])
     -- input::take: "L 0002 0003" as the number of page registers that are lent; as the number of words of memory
-    ∷ some (lends (onByte (at (begun 0 0) 76 50 51) 10 .session)) (16384 ∷ 512 ∷ 3 ∷ []) (16384 ∷ 3 ∷ 1024 ∷ []) (3 ∷ 512 ∷ 1024 ∷ [])
+    ∷ some (lends (onByte (at (begun 0 0) 76 50 51) 10 .session)) (16384 ∷ 512 ∷ 3 ∷ 257 ∷ []) (16384 ∷ 3 ∷ 1024 ∷ 257 ∷ []) (3 ∷ 512 ∷ 1024 ∷ 257 ∷ [])
+    -- input::take: "D 0001 0007" sets a port; the duration after it
+    ∷ some (let x = onByte (at (begun 0 0) 68 49 55) 10 .session in getD (x .present .durations) 1 9 ∷ getD (x .present .durations) 2 9 ∷ getD (x .present .before .ports) 1 9 ∷ flag (x .present .timed) ∷ [])
+    (7 ∷ 100 ∷ 0 ∷ 1 ∷ []) (100 ∷ 100 ∷ 7 ∷ 1 ∷ []) (100 ∷ 7 ∷ 0 ∷ 1 ∷ [])
     -- input::take: "O 0001 0007" sets a page register; a word of memory
     ∷ some (seconds (onByte (at (begun 0 0) 79 49 55) 10 .session)) (0 ∷ 1 ∷ 7 ∷ []) (0 ∷ 7 ∷ 0 ∷ []) (7 ∷ 1 ∷ 0 ∷ [])
     -- input::take: a refused run reported with its budget as its steps; with the answer of one that is made

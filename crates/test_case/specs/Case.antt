@@ -1,42 +1,49 @@
 -- A case (docs/TEST-CASES.md): the machine that its entries make, its run, and the text of what comes of it. Assumes nothing.
 use Prim.Native.Nat.{ℕ, zero, suc}
-use mathlib.Core.Bool.{cond}
+use mathlib.Core.Bool.{Bool, true, false, cond}
 use mathlib.Core.List.{List, [], _++_}
 use lib.Dec.{eqb}
-use lib.ListN.{length, getD, set, take, drop}
+use lib.ListN.{length, getD, set, take, drop, replicate}
 use Rattle.machine.specs.declared.State.{State}
 use Rattle.machine.specs.Machine.{Machine, machine}
-use Rattle.machine.specs.Runs.{runOf, numberOf, answerOf, made, left}
+use Rattle.machine.specs.Runs.{Run, runOf, numberOf, answerOf, made, left}
 use Rattle.isa.specs.Mil1750.{mil1750}
 use Rattle.reset.specs.Reset.{resetMachine}
 use Rattle.report.specs.Report.{reportOf}
 use Rattle.test_case_line.specs.Fields.{withWord}
-use Rattle.test_case_line.specs.Texts.{caseLine, timeLine, entryLine}
+use Rattle.test_case_line.specs.Texts.{caseLine, timeLine, remainderLine, entryLine}
 use Rattle.test_case.specs.declared.Lengths.{Lengths}
 
--- the machine before the run, and how many words of memory, page registers and ports the run is lent
+-- the machine before the run, the durations, how many words of memory, page registers, ports and durations the run is lent, and whether an entry names a duration
 pub record Case : Type 0 where
   pub before : Machine
+  pub durations : List ℕ
   pub lengths : Lengths
+  pub timed : Bool
 
-abbrev pub lengths : ℕ → ℕ → ℕ → Lengths
-lengths m g o = record { memory = m; pages = g; ports = o }
+abbrev pub lengths : ℕ → ℕ → ℕ → ℕ → Lengths
+lengths m g o d = record { memory = m; pages = g; ports = o; durations = d }
 
-abbrev pub case : Machine → Lengths → Case
-case x l = record { before = x; lengths = l }
+abbrev pub case : Machine → List ℕ → Lengths → Bool → Case
+case x d l t = record { before = x; durations = d; lengths = l; timed = t }
 
--- a case without an entry: the machine after reset, all of it lent
+-- a case without an entry: the machine after reset and 100 tenths for each duration, all of it lent
 unfoldable pub fresh : Case
-fresh = case (resetMachine 16384 512 1024) (lengths 16384 512 1024)
+fresh = case (resetMachine 16384 512 1024) (replicate 257 100) (lengths 16384 512 1024 257) false
 
 -- ---- entries: a kind letter k, a number n and a word w
 
--- "L": how many words of memory (0), page registers (1), ports (2) are lent
+-- "L": how many words of memory (0), page registers (1), ports (2), durations (3) are lent
 unfoldable pub lending : Lengths → ℕ → ℕ → Lengths
 lending l n w =
-    cond (eqb n 0) (lengths w (l .pages) (l .ports))
-    (cond (eqb n 1) (lengths (l .memory) w (l .ports))
-    (lengths (l .memory) (l .pages) w))
+    cond (eqb n 0) (lengths w (l .pages) (l .ports) (l .durations))
+    (cond (eqb n 1) (lengths (l .memory) w (l .ports) (l .durations))
+    (cond (eqb n 2) (lengths (l .memory) (l .pages) w (l .durations))
+    (lengths (l .memory) (l .pages) (l .ports) w)))
+
+-- "D": a duration, or all of them (257)
+unfoldable pub withDuration : List ℕ → ℕ → ℕ → List ℕ
+withDuration d n w = cond (eqb n 257) (replicate 257 w) (set d n w)
 
 -- "M" a word of memory, "P" a page register, "O" a port, "S" a word of the state
 unfoldable pub changed : Machine → ℕ → ℕ → ℕ → Machine
@@ -48,7 +55,10 @@ changed x k n w =
 
 -- any entry but the run
 unfoldable pub entered : Case → ℕ → ℕ → ℕ → Case
-entered c k n w = cond (eqb k 76) (case (c .before) (lending (c .lengths) n w)) (case (changed (c .before) k n w) (c .lengths))
+entered c k n w =
+    cond (eqb k 76) (case (c .before) (c .durations) (lending (c .lengths) n w) (c .timed))
+    (cond (eqb k 68) (case (c .before) (withDuration (c .durations) n w) (c .lengths) true)
+    (case (changed (c .before) k n w) (c .durations) (c .lengths) (c .timed)))
 
 -- ---- the run, of a budget b
 
@@ -58,6 +68,10 @@ lent c =
     let x = c .before in
     machine (x .state) (take (c .lengths .memory) (x .memory)) (take (c .lengths .pages) (x .pages)) (take (c .lengths .ports) (x .ports))
 
+-- it is lent the first durations
+abbrev pub caseRun : Case → ℕ → Run
+caseRun c b = runOf b (take (c .lengths .durations) (c .durations))
+
 -- the machine y after it with the words that were not lent, which are as they were
 unfoldable pub rejoined : Case → Machine → Machine
 rejoined c y =
@@ -65,7 +79,7 @@ rejoined c y =
     machine (y .state) (y .memory ++ drop (c .lengths .memory) (x .memory)) (y .pages ++ drop (c .lengths .pages) (x .pages)) (y .ports ++ drop (c .lengths .ports) (x .ports))
 
 unfoldable pub ran : Case → ℕ → Machine
-ran c b = rejoined c (left mil1750 (lent c) (runOf b))
+ran c b = rejoined c (left mil1750 (lent c) (caseRun c b))
 
 -- ---- the text of what comes of it
 
@@ -82,16 +96,16 @@ changesTo k before after (suc n) = changesTo k before after n ++ changeLine k n 
 unfoldable pub changes : ℕ → List ℕ → List ℕ → List ℕ
 changes k before after = changesTo k before after (length after)
 
--- the case's number, the number of the run's answer, the steps made, the state
-unfoldable pub stateLines : ℕ → ℕ → ℕ → State → List ℕ
-stateLines n answer steps s = caseLine n answer ++ (reportOf steps s ++ timeLine s)
+-- the case's number, the number of the run's answer, the steps made, the state; where an entry names a duration, the remainders
+unfoldable pub stateLines : ℕ → ℕ → ℕ → Bool → State → List ℕ
+stateLines n answer steps timed s = caseLine n answer ++ (reportOf steps s ++ (timeLine s ++ cond timed (remainderLine s) []))
 
 -- case number n: its state, then the words of memory, page registers and ports that have changed
 unfoldable pub caseText : ℕ → ℕ → Case → List ℕ
 caseText n b c =
     let x = c .before in
     let y = ran c b in
-    stateLines n (numberOf (answerOf (lent c) (runOf b))) (made (lent c) (runOf b)) (y .state)
+    stateLines n (numberOf (answerOf (lent c) (caseRun c b))) (made (lent c) (caseRun c b)) (c .timed) (y .state)
     ++ (changes 77 (x .memory) (y .memory)
     ++ (changes 80 (x .pages) (y .pages)
     ++ changes 79 (x .ports) (y .ports)))

@@ -103,7 +103,7 @@ sessionOf r memory pages ports = record {
   lines = r .lines;
   cases = r .cases;
   started = r .started;
-  present = case (machine (r .state) memory pages ports) (r .lengths);
+  present = case (machine (r .state) memory pages ports) (r .durations) (r .lengths) (r .timed);
 }
 
 -- a turn with the lists that it leaves, and the text in a buffer, are what is heard

@@ -1,17 +1,17 @@
 // The run of a case.
 ghost use mathlib.Core.Path.{_≡_};
-ghost use mathlib.Core.Bool.{cond};
+ghost use mathlib.Core.Bool.{Bool, cond};
 ghost use Prim.Native.Nat.{_≤_, min};
 ghost use lib.Dec.{eqb};
 ghost use Rattle.machine.specs.Machine.{machine, Became};
-ghost use Rattle.machine.specs.Runs.{runOf, answerOf};
-ghost use Rattle.test_case.specs.Case.{case, lent, ran};
+ghost use Rattle.machine.specs.Runs.{answerOf};
+ghost use Rattle.test_case.specs.Case.{case, lent, caseRun, ran};
 ghost use Rattle.test_case.specs.Session.{sessionOf, onRun, Turned};
 use crate::Lengths;
 use crate::Reading;
 use crate::Turn;
 use crate::input::begin;
-use crate::output::put_changes;
+use crate::output::put_all_changes;
 use crate::output::put_state;
 use machine::State;
 use run::Ran;
@@ -45,19 +45,24 @@ fn run_part(
     memory: &mut [u16],
     pages: &mut [u16],
     ports: &mut [u16],
+    durations: &[u16],
 ) -> Ran
-    ensures { λ r. ⌜ (r .answer ≡ answerOf (lent (case (machine state (now (memory .entry)) (now (pages .entry)) (now (ports .entry))) lengths)) (runOf steps))
-        × Became (ran (case (machine state (now (memory .entry)) (now (pages .entry)) (now (ports .entry))) lengths) steps)
-        (r .state) (now (memory .exit)) (now (pages .exit)) (now (ports .exit)) ⌝ }
+    ensures { λ r. ⌜ ((timed : Bool) →
+        (r .answer ≡ answerOf (lent (case (machine state (now (memory .entry)) (now (pages .entry)) (now (ports .entry))) (now (durations .entry)) lengths timed))
+        (caseRun (case (machine state (now (memory .entry)) (now (pages .entry)) (now (ports .entry))) (now (durations .entry)) lengths timed) steps))
+        × Became (ran (case (machine state (now (memory .entry)) (now (pages .entry)) (now (ports .entry))) (now (durations .entry)) lengths timed) steps)
+        (r .state) (now (memory .exit)) (now (pages .exit)) (now (ports .exit))) ⌝ }
 {
     let m = least(lengths.memory, memory.len());
     let g = least(lengths.pages, pages.len());
     let o = least(lengths.ports, ports.len());
+    let d = least(lengths.durations, durations.len());
     run::run(
         state,
         &mut memory[..m],
         &mut pages[..g],
         &mut ports[..o],
+        &durations[..d],
         steps,
     )
 }
@@ -80,14 +85,13 @@ pub(crate) fn run_case(
     let lines = *ports;
     let state = r.state;
     let lengths = r.lengths;
-    let ran = run_part(state, lengths, steps, memory, pages, ports);
+    let durations = r.durations;
+    let ran = run_part(state, lengths, steps, memory, pages, ports, &durations);
     let answer = ran.answer;
     let refused = run::number(answer) as u32;
     let left = ran.state;
-    let at = put_state(out, number, refused, made(refused, steps), left);
-    let at = put_changes(out, at, b'M', &words, memory);
-    let at = put_changes(out, at, b'P', &registers, pages);
-    let end = put_changes(out, at, b'O', &lines, ports);
+    let at = put_state(out, number, refused, made(refused, steps), r.timed, left);
+    let end = put_all_changes(out, at, &words, &registers, &lines, memory, pages, ports);
     let reading = begin(r.lines, number, memory, pages, ports);
     Turn { reading, end }
 }

@@ -1,6 +1,6 @@
 // What an entry sets.
 ghost use mathlib.Core.Path.{_≡_};
-ghost use Rattle.test_case.specs.Case.{lending};
+ghost use Rattle.test_case.specs.Case.{lending, withDuration};
 ghost use Rattle.test_case.specs.Session.{sessionOf, withEntry};
 use crate::Lengths;
 use crate::Reading;
@@ -18,7 +18,23 @@ fn lend(l: Lengths, number: u16, word: u16) -> Lengths
         t.pages = word;
         return t;
     }
-    t.ports = word;
+    if number == 2 {
+        t.ports = word;
+        return t;
+    }
+    t.durations = word;
+    t
+}
+
+// A duration, or all of them.
+fn set_duration(durations: [u16; 257], number: u16, word: u16) -> [u16; 257]
+    ensures { λ r. ⌜ r ≡ withDuration durations number word ⌝ }
+{
+    if number == 257 {
+        return [word; 257];
+    }
+    let mut t = durations;
+    test_case_line::set::put(&mut t, number, word);
     t
 }
 
@@ -41,6 +57,13 @@ pub(crate) fn enter(
         let old = t.lengths;
         let new = lend(old, number, word);
         t.lengths = new;
+        return t;
+    }
+    if kind == b'D' {
+        let old = t.durations;
+        let new = set_duration(old, number, word);
+        t.durations = new;
+        t.timed = true;
         return t;
     }
     if kind == b'M' {

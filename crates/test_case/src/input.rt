@@ -26,6 +26,7 @@ pub fn begin(
         memory: 16384,
         pages: 512,
         ports: 1024,
+        durations: 257,
     };
     Reading {
         line: [0; 12],
@@ -33,6 +34,8 @@ pub fn begin(
         lines,
         cases,
         started: false,
+        timed: false,
+        durations: [100; 257],
         lengths,
         state,
     }

@@ -7,22 +7,25 @@ mod output;
 
 use machine::State;
 
-// How many words of memory, page registers and ports the run of a case is lent.
+// How many words of memory, page registers, ports and durations the run of a case is lent.
 pub struct Lengths {
     pub memory: u16,
     pub pages: u16,
     pub ports: u16,
+    pub durations: u16,
 }
 
 // Where the reading stands: the first twelve bytes of the present line, 0 where there is none yet, and how many there are; the lines and the
-// cases before it; and of the present case whether it has an entry, the words that its run is lent, and its state. Its memory, page registers
-// and ports are lent.
+// cases before it; and of the present case whether it has an entry and one that names a duration, its durations, the words that its run is lent, and its state. Its
+// memory, page registers and ports are lent.
 pub struct Reading {
     pub line: [u8; 12],
     pub at: usize,
     pub lines: u32,
     pub cases: u32,
     pub started: bool,
+    pub timed: bool,
+    pub durations: [u16; 257],
     pub lengths: Lengths,
     pub state: State,
 }

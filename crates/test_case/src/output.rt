@@ -4,12 +4,15 @@ ghost use mathlib.Core.Path.{_≡_};
 ghost use Prim.Native.Nat.{_+_, _*_, _≤_};
 ghost use lib.ListN.{length};
 ghost use Rattle.text.specs.Texts.{numberedLine, Wrote};
-ghost use Rattle.test_case_line.specs.Texts.{entryLine};
+ghost use mathlib.Core.Bool.{cond};
+ghost use mathlib.Core.List.{[], _++_};
+ghost use Rattle.test_case_line.specs.Texts.{remainderLine, entryLine};
 ghost use Rattle.test_case.specs.Case.{changes, stateLines};
 ghost use Rattle.test_case.specs.Session.{saidIf};
 use machine::State;
 use test_case_line::output::case_line;
 use test_case_line::output::entry_line;
+use test_case_line::output::remainder_line;
 use test_case_line::output::time_line;
 use text::copy;
 use text::numbered_line;
@@ -48,15 +51,29 @@ pub(crate) fn put_if(
     at
 }
 
+// The remainders, where they are to be shown.
+fn put_remainders(out: &mut [u8; 262144], at: usize, timed: bool, state: State) -> usize
+    requires { ⌜ at + 256 ≤ 262144 ⌝ }
+    ensures { λ r. ⌜ (Wrote (now (out .entry)) at (cond timed (remainderLine state) []) (now (out .exit)) r) × (r ≤ at + 256) ⌝ }
+{
+    if timed {
+        let mut line = [0u8; 256];
+        let end = remainder_line(state, &mut line);
+        return add(out, at, &line[..end]);
+    }
+    at
+}
+
 // A case's number, the number of its run's answer, its steps, and the state after it.
 pub(crate) fn put_state(
     out: &mut [u8; 262144],
     number: u32,
     answer: u32,
     steps: u32,
+    timed: bool,
     state: State,
 ) -> usize
-    ensures { λ r. ⌜ (Wrote (now (out .entry)) 0 (stateLines number answer steps state) (now (out .exit)) r) × (r ≤ 768) ⌝ }
+    ensures { λ r. ⌜ (Wrote (now (out .entry)) 0 (stateLines number answer steps timed state) (now (out .exit)) r) × (r ≤ 768) ⌝ }
 {
     let mut line = [0u8; 256];
     let end = case_line(number, answer, &mut line);
@@ -64,7 +81,8 @@ pub(crate) fn put_state(
     let end = report::report(steps, state, &mut line);
     let at = add(out, at, &line[..end]);
     let end = time_line(state, &mut line);
-    add(out, at, &line[..end])
+    let at = add(out, at, &line[..end]);
+    put_remainders(out, at, timed, state)
 }
 
 // An entry.
@@ -78,13 +96,7 @@ fn put_entry(out: &mut [u8; 262144], at: usize, kind: u8, number: u16, word: u16
 }
 
 // The entries of the words that have changed.
-pub(crate) fn put_changes(
-    out: &mut [u8; 262144],
-    at: usize,
-    kind: u8,
-    before: &[u16],
-    after: &[u16],
-) -> usize
+fn put_changes(out: &mut [u8; 262144], at: usize, kind: u8, before: &[u16], after: &[u16]) -> usize
     requires { ⌜ (length (now before) ≡ length (now after)) × (length (now after) ≤ 16384) × (at + 12 * length (now after) ≤ 262144) ⌝ }
     ensures { λ r. ⌜ (Wrote (now (out .entry)) at (changes kind (now (before .entry)) (now (after .entry))) (now (out .exit)) r) × (r ≤ at + 12 * length (now (after .entry))) ⌝ }
 {
@@ -98,4 +110,24 @@ pub(crate) fn put_changes(
         }
     }
     to
+}
+
+// The entries of all words that have changed: of memory, of page registers, of ports.
+pub(crate) fn put_all_changes(
+    out: &mut [u8; 262144],
+    at: usize,
+    words: &[u16; 16384],
+    registers: &[u16; 512],
+    lines: &[u16; 1024],
+    memory: &[u16; 16384],
+    pages: &[u16; 512],
+    ports: &[u16; 1024],
+) -> usize
+    requires { ⌜ at ≤ 768 ⌝ }
+    ensures { λ r. ⌜ Wrote (now (out .entry)) at (changes 77 (now (words .entry)) (now (memory .entry))
+        ++ (changes 80 (now (registers .entry)) (now (pages .entry)) ++ changes 79 (now (lines .entry)) (now (ports .entry)))) (now (out .exit)) r ⌝ }
+{
+    let at = put_changes(out, at, b'M', words, memory);
+    let at = put_changes(out, at, b'P', registers, pages);
+    put_changes(out, at, b'O', lines, ports)
 }

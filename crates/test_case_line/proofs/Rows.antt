@@ -25,6 +25,20 @@ too-many : lineOf (76 ∷ 32 ∷ 48 ∷ 48 ∷ 48 ∷ 49 ∷ 32 ∷ 48 ∷ 50 �
 unfolding digitOf given wordOf sizeOf limitOf entryOf lineOf
 too-many = refl
 
+-- "D 0101 0064": all durations; "D 0102 0064": there is no such number
+durations-line : lineOf (68 ∷ 32 ∷ 48 ∷ 49 ∷ 48 ∷ 49 ∷ 32 ∷ 48 ∷ 48 ∷ 54 ∷ 52 ∷ 0 ∷ []) 11 ≡ Line.Entry 68 257 100
+unfolding digitOf given wordOf sizeOf limitOf entryOf lineOf
+durations-line = refl
+
+no-duration : lineOf (68 ∷ 32 ∷ 48 ∷ 49 ∷ 48 ∷ 50 ∷ 32 ∷ 48 ∷ 48 ∷ 54 ∷ 52 ∷ 0 ∷ []) 11 ≡ Line.Malformed
+unfolding digitOf given wordOf sizeOf limitOf entryOf lineOf
+no-duration = refl
+
+-- "L 0003 0102": there are not so many durations
+too-many-durations : lineOf (76 ∷ 32 ∷ 48 ∷ 48 ∷ 48 ∷ 51 ∷ 32 ∷ 48 ∷ 49 ∷ 48 ∷ 50 ∷ 0 ∷ []) 11 ≡ Line.Malformed
+unfolding digitOf given wordOf sizeOf limitOf entryOf lineOf
+too-many-durations = refl
+
 -- "# a remark"
 remark : lineOf (35 ∷ 32 ∷ 97 ∷ 32 ∷ 114 ∷ 101 ∷ 109 ∷ 97 ∷ 114 ∷ 107 ∷ 0 ∷ 0 ∷ []) 10 ≡ Line.Remark
 unfolding lineOf

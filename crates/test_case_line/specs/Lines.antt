@@ -8,15 +8,15 @@ use Rattle.choice.specs.Select.{select}
 use Rattle.text.specs.Texts.{wordOf}
 use Rattle.test_case_line.specs.declared.Line.{Line}
 
--- ---- kinds: "S" a word of the state, "M" of memory, "P" a page register, "O" a port, "L" a length, "G" a run
+-- ---- kinds: "S" a word of the state, "M" of memory, "P" a page register, "O" a port, "D" a duration, "L" a length, "G" a run
 
 -- how many numbers a kind has
 unfoldable pub sizeOf : ℕ → ℕ
-sizeOf k = select k ((83, 26) ∷ (77, 16384) ∷ (80, 512) ∷ (79, 1024) ∷ (76, 3) ∷ (71, 65536) ∷ []) 0
+sizeOf k = select k ((83, 28) ∷ (77, 16384) ∷ (80, 512) ∷ (79, 1024) ∷ (68, 258) ∷ (76, 4) ∷ (71, 65536) ∷ []) 0
 
--- the largest word: a length is at most the words that there are (memory, page registers, ports)
+-- the largest word: a length is at most the words that there are (memory, page registers, ports, durations)
 unfoldable pub limitOf : ℕ → ℕ → ℕ
-limitOf k n = cond (eqb k 76) (cond (eqb n 0) 16384 (cond (eqb n 1) 512 1024)) 65535
+limitOf k n = cond (eqb k 76) (cond (eqb n 0) 16384 (cond (eqb n 1) 512 (cond (eqb n 2) 1024 257))) 65535
 
 -- ---- lines
 

@@ -2,7 +2,7 @@
 use Prim.Native.Nat.{ℕ}
 use mathlib.Core.List.{List, [], _∷_, _++_}
 use Rattle.machine.specs.declared.State.{State}
-use Rattle.text.specs.Texts.{newline, blank, hex, decimal}
+use Rattle.text.specs.Texts.{newline, blank, hex, decimal, bytesOf}
 use Rattle.packed.specs.Packed.{marksOf}
 
 -- "case ", the case's number, " answer ", the number of the run's answer
@@ -24,6 +24,10 @@ timeLine s =
     ++ (hex (marksOf s)
     ++ ((32 ∷ 99 ∷ 111 ∷ 117 ∷ 110 ∷ 116 ∷ 32 ∷ [])
     ++ (decimal (s .clock .count) ++ (newline ∷ []))))))))
+
+-- the remainders of timers A and B: "remainders "
+unfoldable pub remainderLine : State → List ℕ
+remainderLine s = bytesOf "remainders " ++ (decimal (s .clock .rema) ++ ((blank ∷ []) ++ (decimal (s .clock .remb) ++ (newline ∷ []))))
 
 -- an entry: its kind letter, its number, its word
 unfoldable pub entryLine : ℕ → ℕ → ℕ → List ℕ

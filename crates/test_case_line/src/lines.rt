@@ -10,11 +10,12 @@ fn size(kind: u8) -> u32
     ensures { λ r. ⌜ (r ≡ sizeOf kind) × (r ≤ 65536) ⌝ }
 {
     match kind {
-        b'S' => 26,
+        b'S' => 28,
         b'M' => 16384,
         b'P' => 512,
         b'O' => 1024,
-        b'L' => 3,
+        b'D' => 258,
+        b'L' => 4,
         b'G' => 65536,
         _ => 0,
     }
@@ -33,7 +34,10 @@ fn limit(kind: u8, number: u32) -> u32
     if number == 1 {
         return 512;
     }
-    1024
+    if number == 2 {
+        return 1024;
+    }
+    257
 }
 
 // A line of n bytes, of which the first twelve are given.

@@ -23,6 +23,8 @@ fn place(number: u16) -> u16
     match number {
         24 => 32,
         25 => 33,
+        26 => 24,
+        27 => 25,
         _ => number,
     }
 }

@@ -19,6 +19,8 @@ extern "C" {
 
     fn twin1750_run(
         budget: u32,
+        durations: *const u16,
+        durations_len: usize,
         state: *mut u16,
         state_len: usize,
         memory: *mut u16,
@@ -64,19 +66,23 @@ pub fn load_words(
     Refusal::check(answer)
 }
 
-/// Runs on a packed state of [`STATE_WORDS`](crate::STATE_WORDS) words (see [`State::pack`](crate::State::pack)).
+/// Runs with [`DURATIONS`](crate::DURATIONS) durations on a packed state of [`STATE_WORDS`](crate::STATE_WORDS) words (see
+/// [`State::pack`](crate::State::pack)).
 #[allow(unsafe_code)]
 pub fn run_words(
     budget: u32,
+    durations: &[u16],
     state: &mut [u16],
     memory: &mut [u16],
     pages: &mut [u16],
     ports: &mut [u16],
 ) -> Result<(), Refusal> {
-    // SAFETY: as in `load_words`, for four slices that are all borrowed mutably.
+    // SAFETY: as in `load_words`; the library only reads the durations.
     let answer = unsafe {
         twin1750_run(
             budget,
+            durations.as_ptr(),
+            durations.len(),
             state.as_mut_ptr(),
             state.len(),
             memory.as_mut_ptr(),

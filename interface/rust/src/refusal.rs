@@ -36,13 +36,15 @@ pub enum Refusal {
     Operands = 15,
     /// An operand of a line is outside its field.
     Field = 16,
+    /// There are not exactly 257 durations.
+    Durations = 17,
     /// The packed state is not exactly 256 words.
     State = 100,
 }
 
 impl Refusal {
     /// All refusals.
-    pub const ALL: [Refusal; 16] = [
+    pub const ALL: [Refusal; 17] = [
         Refusal::Memory,
         Refusal::Pages,
         Refusal::Ports,
@@ -58,6 +60,7 @@ impl Refusal {
         Refusal::Mnemonic,
         Refusal::Operands,
         Refusal::Field,
+        Refusal::Durations,
         Refusal::State,
     ];
 

@@ -1,8 +1,8 @@
 //! The state with named parts, and its packed form.
 
 use crate::layout::{
-    A_RUNS, B_RUNS, COUNTER_HIGH, COUNTER_LOW, ENABLED, FT, HOLD, IC, MARKS, MK, PI, STATE_WORDS,
-    SW, TIMER_A, TIMER_B,
+    A_RUNS, B_RUNS, COUNTER_HIGH, COUNTER_LOW, ENABLED, FT, HOLD, IC, MARKS, MK, PI, REMAINDER_A,
+    REMAINDER_B, STATE_WORDS, SW, TIMER_A, TIMER_B,
 };
 
 /// The processor's state, without memory, page registers and ports.
@@ -31,6 +31,10 @@ pub struct State {
     pub timer_a: u16,
     /// Timer B.
     pub timer_b: u16,
+    /// The remainder of timer A: the tenths of a microsecond that it has counted and that are not yet a rise.
+    pub remainder_a: u16,
+    /// The remainder of timer B, likewise.
+    pub remainder_b: u16,
     /// Whether timer A runs.
     pub a_runs: bool,
     /// Whether timer B runs.
@@ -64,6 +68,8 @@ impl State {
         words[MARKS] = marks.iter().filter(|(on, _)| *on).map(|(_, weight)| weight).sum();
         words[TIMER_A] = self.timer_a;
         words[TIMER_B] = self.timer_b;
+        words[REMAINDER_A] = self.remainder_a;
+        words[REMAINDER_B] = self.remainder_b;
         words[COUNTER_HIGH] = (self.counter >> 16) as u16;
         words[COUNTER_LOW] = (self.counter & 0xFFFF) as u16;
         words
@@ -85,6 +91,8 @@ impl State {
             hold: marked(HOLD),
             timer_a: words[TIMER_A],
             timer_b: words[TIMER_B],
+            remainder_a: words[REMAINDER_A],
+            remainder_b: words[REMAINDER_B],
             a_runs: marked(A_RUNS),
             b_runs: marked(B_RUNS),
             counter: u32::from(words[COUNTER_HIGH]) << 16 | u32::from(words[COUNTER_LOW]),

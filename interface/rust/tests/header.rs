@@ -39,6 +39,7 @@ fn numbers_of_the_header() {
         ("STATE", layout::STATE_WORDS),
         ("PAGES", 512),
         ("PORTS", 1024),
+        ("DURATIONS", layout::DURATIONS),
         ("LINE", layout::LINE_BYTES),
         ("IC", layout::IC),
         ("SW", layout::SW),
@@ -48,6 +49,8 @@ fn numbers_of_the_header() {
         ("MARKS", layout::MARKS),
         ("TIMER_A", layout::TIMER_A),
         ("TIMER_B", layout::TIMER_B),
+        ("REMAINDER_A", layout::REMAINDER_A),
+        ("REMAINDER_B", layout::REMAINDER_B),
         ("COUNTER_HIGH", layout::COUNTER_HIGH),
         ("COUNTER_LOW", layout::COUNTER_LOW),
     ];

@@ -4,12 +4,12 @@ mod common;
 
 use common::{image, Machine};
 use twin1750::layout::{COUNTER_HIGH, COUNTER_LOW};
-use twin1750::{load, run, Refusal, State, STATE_WORDS};
+use twin1750::{load, run, Refusal, State, HUNDRED_EACH, STATE_WORDS};
 
 type Call = fn(&mut Machine) -> Result<(), Refusal>;
 
 /// The call is refused by the number, and the machine stays as it was.
-fn refused(mut machine: Machine, call: Call, number: u32) {
+fn refused(mut machine: Machine, call: impl Fn(&mut Machine) -> Result<(), Refusal>, number: u32) {
     let before = machine.clone();
     let refusal = call(&mut machine).expect_err("a refusal");
     assert_eq!(refusal.number(), number);
@@ -69,6 +69,20 @@ fn budget_and_counter() {
     assert_eq!(counted(u32::MAX - 3).run(3), Ok(()));
 }
 
+/// 17 is asked of every run, before 4 and 5.
+#[test]
+fn durations() {
+    for length in [0, 1, 256, 258, 512] {
+        let list = vec![100; length];
+        refused(counted(0), |m| m.run_for(1, &list), 17);
+        refused(counted(0), |m| m.run_for(0, &list), 17);
+        refused(counted(0), |m| m.run_for(2_000_000, &list), 17);
+        refused(counted(u32::MAX), |m| m.run_for(1, &list), 17);
+    }
+    assert_eq!(counted(0).run_for(1, &[u16::MAX; 257]), Ok(()));
+    refused(counted(0), |m| m.run_for(1_000_001, &[0; 257]), 4);
+}
+
 #[test]
 fn images() {
     let calls: [(Call, u32); 15] = [
@@ -104,7 +118,9 @@ fn order() {
     for (machine, number) in wrong {
         refused(machine.clone(), |m| m.load(&[]), number);
         refused(machine.clone(), |m| m.load(&[0]), number);
-        refused(machine, |m| m.run(1_000_001), number);
+        refused(machine.clone(), |m| m.run(1_000_001), number);
+        refused(machine.clone(), |m| m.run_for(1, &[100; 256]), number);
+        refused(machine, |m| m.run_for(1_000_001, &[]), number);
     }
     refused(counted(u32::MAX), |m| m.run(1_000_001), 4);
 }
@@ -117,13 +133,17 @@ fn named_state() {
     let before = (state, machine.clone());
     let Machine { memory, pages, ports, .. } = &mut machine;
     assert_eq!(load(&[0], &mut state, memory, pages, ports), Err(Refusal::NoCount));
-    assert_eq!(run(1, &mut state, memory, pages, ports), Err(Refusal::Counter));
-    assert_eq!(run(1, &mut state, &mut [], pages, ports), Err(Refusal::Memory));
+    let mut refused = |durations: &[u16], memory: &mut [u16]| {
+        run(1, durations, &mut state, memory, pages, ports).expect_err("a refusal")
+    };
+    assert_eq!(refused(&HUNDRED_EACH, memory), Refusal::Counter);
+    assert_eq!(refused(&[100; 256], memory), Refusal::Durations);
+    assert_eq!(refused(&[100; 256], &mut []), Refusal::Memory);
     assert!((state, machine) == before);
 }
 
 #[test]
 fn numbers() {
     let numbers: Vec<u32> = Refusal::ALL.iter().map(|refusal| refusal.number()).collect();
-    assert_eq!(numbers, [1, 2, 3, 4, 5, 6, 7, 8, 9, 10, 11, 12, 14, 15, 16, 100]);
+    assert_eq!(numbers, [1, 2, 3, 4, 5, 6, 7, 8, 9, 10, 11, 12, 14, 15, 16, 17, 100]);
 }

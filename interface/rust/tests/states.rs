@@ -3,8 +3,8 @@
 mod common;
 
 use common::{image, Machine};
-use twin1750::layout::{COUNTER_HIGH, COUNTER_LOW, MARKS, TIMER_B};
-use twin1750::{load, run, State};
+use twin1750::layout::{COUNTER_HIGH, COUNTER_LOW, MARKS, REMAINDER_B};
+use twin1750::{load, run, State, HUNDRED_EACH};
 
 #[test]
 fn example() {
@@ -14,7 +14,7 @@ fn example() {
     let mut state = State::reset();
     load(&bytes, &mut state, &mut memory, &mut pages, &mut ports).expect("loaded");
     assert_eq!(memory[..3], [0x823F, 0x7900, 0]);
-    run(1000, &mut state, &mut memory, &mut pages, &mut ports).expect("run");
+    run(1000, &HUNDRED_EACH, &mut state, &mut memory, &mut pages, &mut ports).expect("run");
     let mut regs = [0; 16];
     regs[3] = 0x0010;
     let left = State {
@@ -42,7 +42,9 @@ fn various() -> State {
         ft: 0x2005,
         timer_a: 0x2006,
         timer_b: 0x2007,
-        counter: 0x2008_2009,
+        remainder_a: 0x2008,
+        remainder_b: 0x2009,
+        counter: 0x200A_200B,
         ..State::default()
     }
 }
@@ -50,11 +52,12 @@ fn various() -> State {
 #[test]
 fn packed_words() {
     let mut words = [0; 256];
-    words[..24].copy_from_slice(&[
+    words[..26].copy_from_slice(&[
         0x100, 0x101, 0x102, 0x103, 0x104, 0x105, 0x106, 0x107, 0x108, 0x109, 0x10A, 0x10B, 0x10C,
-        0x10D, 0x10E, 0x10F, 0x2001, 0x2002, 0x2003, 0x2004, 0x2005, 0, 0x2006, 0x2007,
+        0x10D, 0x10E, 0x10F, 0x2001, 0x2002, 0x2003, 0x2004, 0x2005, 0, 0x2006, 0x2007, 0x2008,
+        0x2009,
     ]);
-    words[32..34].copy_from_slice(&[0x2008, 0x2009]);
+    words[32..34].copy_from_slice(&[0x200A, 0x200B]);
     assert_eq!(various().pack(), words);
     assert_eq!(State::unpack(&various().pack()), various());
 }
@@ -83,7 +86,7 @@ fn run_of_no_steps() {
         assert_eq!(machine.run(0), Ok(()));
         let mut words = before.state();
         words[21] = marks;
-        words[24..32].fill(0);
+        words[26..32].fill(0);
         words[34..].fill(0);
         assert_eq!(machine, Machine { words: words.to_vec(), ..before.clone() });
         assert_eq!(State::unpack(&before.state()).pack(), words);
@@ -135,12 +138,12 @@ fn steps_from_no_bytes() {
     let Machine { memory, pages, ports, .. } = &mut machine;
     load(&[], &mut state, memory, pages, ports).expect("loaded");
     assert_eq!(state, State::reset());
-    run(10, &mut state, memory, pages, ports).expect("run");
+    run(10, &HUNDRED_EACH, &mut state, memory, pages, ports).expect("run");
     let left = State { ic: 10, sw: 0x2000, timer_a: 10, timer_b: 1, counter: 10, ..State::reset() };
     assert_eq!(state, left);
 }
 
-/// Marks, timers and counter after each of the commands TAH, TBH, ENBL, DSBL, OTA and OTB from R0.
+/// Marks, timers, remainders and counter after each of the commands TAH, TBH, ENBL, DSBL, OTA and OTB from R0.
 #[test]
 fn marks_of_commands() {
     let commands = [0x4009, 0x400D, 0x2002, 0x2003, 0x400A, 0x400E];
@@ -148,10 +151,17 @@ fn marks_of_commands() {
     let bodies: Vec<u16> = program.iter().copied().chain([0xABCD]).collect();
     let mut machine = Machine::new();
     assert_eq!(machine.load(&image(&[(1, 0, 12), (3, 0, 1)], &bodies)), Ok(()));
-    let after = [[8, 0, 0], [0, 0, 0], [3, 0, 0], [0, 0, 0], [4, 0xABCE, 0], [12, 0xABCF, 0xABCD]];
+    let after = [
+        [8, 0, 0, 0, 100],
+        [0, 0, 0, 0, 100],
+        [3, 0, 0, 0, 100],
+        [0, 0, 0, 0, 100],
+        [4, 0xABCE, 0, 0, 100],
+        [12, 0xABCF, 0xABCD, 0, 100],
+    ];
     for (step, parts) in after.into_iter().enumerate() {
         assert_eq!(machine.run(1), Ok(()));
-        assert_eq!(machine.words[MARKS..=TIMER_B], parts, "after step {}", step + 1);
+        assert_eq!(machine.words[MARKS..=REMAINDER_B], parts, "after step {}", step + 1);
         assert_eq!(machine.words[COUNTER_HIGH..=COUNTER_LOW], [0, step as u16 + 1]);
     }
 }

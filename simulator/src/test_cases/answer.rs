@@ -1,6 +1,10 @@
 //! What is written for the cases of an input: the format of docs/TEST-CASES.md, on this simulator.
 
-use crate::{print, reset, run, State, PAGE_REGISTERS, PORTS, PROGRAM_WORDS};
+use crate::{print, reset, run, State};
+use crate::{DURATIONS, PAGE_REGISTERS, PORTS, PROGRAM_DURATION, PROGRAM_WORDS};
+
+/// The number of an entry D that sets all durations.
+const ALL: usize = DURATIONS;
 
 /// A line of the input.
 enum Line {
@@ -20,18 +24,19 @@ fn word(digits: &[u8]) -> Option<u16> {
 
 /// How many words there are of what an entry L numbers.
 fn lent(number: u16) -> usize {
-    [PROGRAM_WORDS, PAGE_REGISTERS, PORTS][usize::from(number)]
+    [PROGRAM_WORDS, PAGE_REGISTERS, PORTS, DURATIONS][usize::from(number)]
 }
 
 /// Whether a kind has the number, and the number may have the word.
 fn allowed(kind: u8, number: u16, word: u16) -> bool {
     let index = usize::from(number);
     match kind {
-        b'S' => index < 26,
+        b'S' => index < 28,
         b'M' => index < PROGRAM_WORDS,
         b'P' => index < PAGE_REGISTERS,
         b'O' => index < PORTS,
-        b'L' => index < 3 && usize::from(word) <= lent(number),
+        b'D' => index <= ALL,
+        b'L' => index < 4 && usize::from(word) <= lent(number),
         b'G' => true,
         _ => false,
     }
@@ -53,22 +58,25 @@ fn read(line: &[u8]) -> Line {
     }
 }
 
-/// Everything a case's run is lent, and the lengths of the parts that it is lent.
+/// Everything a case's run is lent, the lengths of the parts that it is lent, and whether an entry
+/// names a duration.
 #[derive(Clone)]
 struct Setup {
     state: State,
     memory: Vec<u16>,
     pages: Vec<u16>,
     ports: Vec<u16>,
-    lent: [usize; 3],
+    durations: Vec<u16>,
+    lent: [usize; 4],
+    timed: bool,
 }
 
 impl Setup {
     fn new() -> Setup {
         let (mut memory, mut pages) = (vec![0; PROGRAM_WORDS], vec![0; PAGE_REGISTERS]);
-        let mut ports = vec![0; PORTS];
+        let (mut ports, durations) = (vec![0; PORTS], vec![PROGRAM_DURATION; DURATIONS]);
         let state = reset(&mut memory, &mut pages, &mut ports);
-        Setup { state, memory, pages, ports, lent: [0, 1, 2].map(lent) }
+        Setup { state, memory, pages, ports, durations, lent: [0, 1, 2, 3].map(lent), timed: false }
     }
 
     /// Sets what an entry names.
@@ -79,19 +87,30 @@ impl Setup {
             b'P' => self.pages[index] = word,
             b'O' => self.ports[index] = word,
             b'L' => self.lent[index] = usize::from(word),
+            b'D' => self.set_duration(index, word),
             _ => set_state(&mut self.state, index, word),
+        }
+    }
+
+    /// Sets one duration, or all of them.
+    fn set_duration(&mut self, number: usize, tenths: u16) {
+        self.timed = true;
+        match number {
+            ALL => self.durations.fill(tenths),
+            _ => self.durations[number] = tenths,
         }
     }
 
     /// Makes the run.
     fn run(&mut self, steps: u32) -> Result<(), u32> {
-        let [memory, pages, ports] = self.lent;
-        let Setup { state, memory: words, pages: registers, ports: lines, .. } = self;
-        run(state, &mut words[..memory], &mut registers[..pages], &mut lines[..ports], steps)
+        let [memory, pages, ports, durations] = self.lent;
+        let (memory, pages) = (&mut self.memory[..memory], &mut self.pages[..pages]);
+        let (ports, durations) = (&mut self.ports[..ports], &self.durations[..durations]);
+        run(&mut self.state, memory, pages, ports, durations, steps)
     }
 }
 
-/// Sets one of the 26 words of the state.
+/// Sets one of the 28 words of the state.
 fn set_state(state: &mut State, number: usize, word: u16) {
     let wide = u32::from(word);
     match number {
@@ -108,7 +127,9 @@ fn set_state(state: &mut State, number: usize, word: u16) {
         22 => state.timer_a = word,
         23 => state.timer_b = word,
         24 => state.counter = (wide << 16) | (state.counter & 0xFFFF),
-        _ => state.counter = (state.counter & 0xFFFF_0000) | wide,
+        25 => state.counter = (state.counter & 0xFFFF_0000) | wide,
+        26 => state.remainder_a = word,
+        _ => state.remainder_b = word,
     }
 }
 
@@ -118,6 +139,11 @@ fn time_line(state: &State) -> String {
     let marks = [state.enabled, state.hold, state.timer_a_running, state.timer_b_running];
     let word: u16 = marks.iter().zip([1, 2, 4, 8]).map(|(mark, w)| u16::from(*mark) * w).sum();
     format!("ta {timer_a:04X} tb {timer_b:04X} marks {word:04X} count {counter}\n")
+}
+
+/// The line of the remainders.
+fn remainder_line(state: &State) -> String {
+    format!("remainders {} {}\n", state.remainder_a, state.remainder_b)
 }
 
 /// The entries of the words that have changed.
@@ -134,6 +160,9 @@ fn case(number: u32, mut setup: Setup, steps: u32) -> String {
     let mut text = format!("case {number} answer {}\n", answer.err().unwrap_or(0));
     text += &print(&setup.state, made);
     text += &time_line(&setup.state);
+    if setup.timed {
+        text += &remainder_line(&setup.state);
+    }
     text += &changes('M', &before.memory, &setup.memory);
     text += &changes('P', &before.pages, &setup.pages);
     text + &changes('O', &before.ports, &setup.ports)

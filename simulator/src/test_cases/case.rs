@@ -102,6 +102,26 @@ impl Case {
         self.entry('S', 24, (counter >> 16) as u16).entry('S', 25, counter as u16)
     }
 
+    /// The step counter and the remainder that timer B has after so many steps of 100 tenths.
+    pub(crate) fn counted(self, counter: u16) -> Case {
+        self.entry('S', 27, counter % 10 * 100).entry('S', 25, counter)
+    }
+
+    /// The remainders of timers A and B.
+    pub(crate) fn remainders(self, a: u16, b: u16) -> Case {
+        self.entry('S', 26, a).entry('S', 27, b)
+    }
+
+    /// All durations.
+    pub(crate) fn durations(self, tenths: u16) -> Case {
+        self.entry('D', 257, tenths)
+    }
+
+    /// The duration of an opcode, or with 256 that of a step that fetches no first word.
+    pub(crate) fn duration(self, number: u16, tenths: u16) -> Case {
+        self.entry('D', number, tenths)
+    }
+
     /// An instruction page register of group 0.
     pub(crate) fn fetch_page(self, page: u16, register: u16) -> Case {
         self.entry('P', page, register)
@@ -127,7 +147,7 @@ impl Case {
         self.entry('O', number, word)
     }
 
-    /// How many words of memory (0), page registers (1) or ports (2) the run is lent.
+    /// How many words of memory (0), page registers (1), ports (2), durations (3) the run is lent.
     pub(crate) fn lent(self, what: u16, words: u16) -> Case {
         self.entry('L', what, words)
     }

@@ -52,11 +52,25 @@ const UNKNOWN: &[u16] = &[
     0xD300, 0xFFFF,
 ];
 
+/// XIO R4 with a command, and the registers that a command can read or change.
+fn registers(command: u16, title: String) -> Case {
+    let case = Case::on(title, &[0x4840, command]).registers(4, &[0xBEE5]);
+    case.mk(0x5A5A).pi(0x2180).ft(0x4112).timers(0x1234, 0x5678)
+}
+
+/// Ports that a command can read or change.
+fn ports(case: Case) -> Case {
+    case.port(0, 0x1111).port(291, 0x2222).port(1023, 0x3333)
+}
+
 /// XIO R4 with a command; all that a command can read or change is set.
 fn command(command: u16, title: String) -> Case {
-    let case = Case::on(title, &[0x4840, command]).registers(4, &[0xBEE5]);
-    let case = case.mk(0x5A5A).pi(0x2180).ft(0x4112).timers(0x1234, 0x5678).counter(8);
-    case.port(0, 0x1111).port(291, 0x2222).port(1023, 0x3333)
+    ports(registers(command, title).counter(8))
+}
+
+/// The same where the run comes to a tenth step, in which timer B rises.
+fn command_before_tenth(command: u16, title: String) -> Case {
+    ports(registers(command, title).counted(8))
 }
 
 /// The cases that one number cannot show: pairs of steps, other registers and numbers.
@@ -69,7 +83,7 @@ fn details(cases: &mut Vec<Case>) {
     cases.push(case.mk(0));
     for marks in 0..16 {
         for (code, name) in [(0x4008, "TAS"), (0x4009, "TAH"), (0x400C, "TBS"), (0x400D, "TBH")] {
-            let case = command(code, format!("{name} on marks {marks}")).counter(9);
+            let case = command(code, format!("{name} on marks {marks}")).counted(9);
             cases.push(case.timers(0xFFFF, 0xFFFF).marks(marks).mk(0).pi(0));
         }
     }
@@ -78,15 +92,18 @@ fn details(cases: &mut Vec<Case>) {
         cases.push(case.registers(4, &[0xFFFF]).marks(0));
     }
     for (code, name) in [(0x2002, "ENBL"), (0x2003, "DSBL"), (0x2005, "SPI")] {
-        let case = command(code, format!("{name}, two steps")).mk(0xFFFF).steps(2);
+        let start = |title: String| command_before_tenth(code, title).mk(0xFFFF);
+        let case = start(format!("{name}, two steps")).steps(2);
         cases.push(case.pi(0).registers(4, &[0x2000]).marks(0x000D).memory(0x0102, &[0xFF00]));
-        let case = command(code, format!("{name}, three steps")).mk(0xFFFF).steps(3);
+        let case = start(format!("{name}, three steps")).steps(3);
         let case = case.pi(0x0004).registers(4, &[0x2000]).marks(0x000E);
         cases.push(case.memory(0x0102, &[0xFF00, 0xFF00]).memory(0x0024, &[0x0400, 0x0500]));
     }
-    let case = command(0x200E, "WSW to key 3, then XIO again".into()).registers(4, &[0x0030]);
+    let case = command_before_tenth(0x200E, "WSW to key 3, then XIO again".into());
+    let case = case.registers(4, &[0x0030]);
     cases.push(case.memory(0x0102, &[0x4840, 0x2000]).fetch_page(0, 0xF000).steps(2).mk(0).pi(0));
-    let case = command(0x5200, "WOPR of page 0, then a store there".into()).mk(0).pi(0);
+    let case = command_before_tenth(0x5200, "WOPR of page 0, then a store there".into());
+    let case = case.mk(0).pi(0);
     let case = case.registers(4, &[0x0802]).memory(0x0102, &[0x9040, 0x0300]);
     cases.push(case.steps(2));
 }

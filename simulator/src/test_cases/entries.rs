@@ -9,7 +9,7 @@ const SERVICE: u16 = 0x1200;
 const NEW: [u16; 3] = [0xABCD, 0x2043, 0x0350];
 
 /// Interrupt `number` pending with its pointers, old state to be stored, a NOP at IC.
-fn pending(number: u16, title: &str) -> Case {
+pub(super) fn pending(number: u16, title: &str) -> Case {
     let case = Case::on(format!("interrupt {number} {title}"), &[0xFF00]).sw(0x4000);
     let case = case.memory(32 + 2 * number, &[LINKAGE, SERVICE]).memory(SERVICE, &NEW);
     case.pi(0x8000 >> number)
@@ -30,7 +30,7 @@ fn taken(number: u16, cases: &mut Vec<Case>) {
 
 /// The page registers and pointers that refuse words of an entry: title and change of the case.
 type Change = fn(Case) -> Case;
-const REFUSALS: &[(&str, Change)] = &[
+pub(super) const REFUSALS: &[(&str, Change)] = &[
     ("pointers outside", |case| case.page(0, 0x0004)),
     ("pointers locked for other keys", |case| case.page(0, 0x7000)),
     ("service outside", |case| case.page(1, 0x00FF)),
@@ -81,7 +81,7 @@ fn at_edges(pointers: u16, start: impl Fn(&str) -> Case, cases: &mut Vec<Case>) 
 }
 
 /// BEX with its pointers, a service block with an IC for each entry number, and interrupts enabled.
-fn call(entry: u16, title: &str) -> Case {
+pub(super) fn call(entry: u16, title: &str) -> Case {
     let case = Case::on(format!("BEX {entry} {title}"), &[0x7700 | entry]).sw(0x1000);
     let case = case.memory(42, &[LINKAGE, SERVICE]).memory(SERVICE, &NEW[..2]).mk(0x0F0F);
     let entries: Vec<u16> = (0..16).map(|number| 0x0360 + number).collect();
@@ -123,10 +123,10 @@ fn sequences(cases: &mut Vec<Case>) {
         case.memory(SERVICE, &[0xFFFF, 0x0000, 0x0110]).memory(0x1210, &[0xFFFF, 0, 0x0120])
     };
     cases.push(both("timer A passes FFFF").timers(0xFFFF, 0).steps(2));
-    cases.push(both("timer B passes FFFF").timers(0, 0xFFFF).counter(9).steps(2));
-    cases.push(both("both timers pass FFFF").timers(0xFFFF, 0xFFFF).counter(9).steps(3));
+    cases.push(both("timer B passes FFFF").timers(0, 0xFFFF).counted(9).steps(2));
+    cases.push(both("both timers pass FFFF").timers(0xFFFF, 0xFFFF).counted(9).steps(3));
     cases.push(both("timers do not run").timers(0xFFFF, 0xFFFF).counter(9).marks(1).steps(3));
-    cases.push(both("timer B waits for a tenth step").timers(0, 0xFFFF).counter(7).steps(2));
+    cases.push(both("timer B does not come to its end in two steps").timers(0, 0xFFFF).counted(7).steps(2));
     let fault = Case::on("a fault, then interrupt 1", &[0x4400]).mk(0x4000).steps(2);
     cases.push(fault.memory(34, &[LINKAGE, SERVICE]).memory(SERVICE, &NEW));
     let fault = Case::on("interrupt 1 with a refused word pends again", &[0xFF00]).pi(0x4000);

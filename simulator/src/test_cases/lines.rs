@@ -50,10 +50,10 @@ const MALFORMED: &[&str] = &[
     "R 0000 0000",
     "M 4000 0000",
     "M FFFF 0000",
-    "S 001A 0000",
+    "S 001C 0000",
     "P 0200 0000",
     "O 0400 0000",
-    "L 0003 0000",
+    "L 0004 0000",
     "L 0000 4001",
     "L 0001 0201",
     "L 0002 0401",
@@ -63,13 +63,62 @@ const MALFORMED: &[&str] = &[
     "a line that is far longer than any entry may be",
 ];
 
-/// A case with malformed lines among its entries, then one that is never run.
-pub(crate) fn malformed(text: &mut String) {
-    text.push_str("# malformed lines within a case\nM 0100 8243\n");
-    for line in MALFORMED {
+/// The same of durations.
+const MALFORMED_DURATIONS: &[&str] = &[
+    "D",
+    "D 0000 000",
+    "D 0000 00000",
+    "D 0000 0000 ",
+    "D0000 00000",
+    "D 0000\t0000",
+    "D 00G0 0000",
+    "D 0000 00ff",
+    "d 0000 0000",
+    "E 0000 0000",
+    "T 0000 0000",
+    "D 0102 0000",
+    "D 0201 0000",
+    "D 1000 0000",
+    "D FFFF 0000",
+    "S 001D 0000",
+    "S 0020 0000",
+    "S 011A 0000",
+    "S FFFF 0000",
+    "L 0003 0102",
+    "L 0003 FFFF",
+    "L 0005 0000",
+    "L 0103 0000",
+];
+
+/// Writes lines.
+fn write(lines: &[&str], text: &mut String) {
+    for line in lines {
         text.push_str(line);
         text.push('\n');
     }
+}
+
+/// A case with malformed lines among its entries, then one that is not yet run.
+pub(crate) fn malformed(text: &mut String) {
+    text.push_str("# malformed lines within a case\nM 0100 8243\n");
+    write(MALFORMED, text);
     text.push_str("S 0010 0100\n#\nG 0000 0001\n");
-    text.push_str("# a case without its run, and a last line without its end\nS 0000 0001\nfoo");
+    text.push_str("# a case without its run, and a last line without its end\nS 0000 0001\nfoo\n");
+}
+
+/// The run of the case that is not yet run; the entry that it has already is of R0.
+pub(crate) fn left_open() -> Case {
+    Case::new("the case without its run, run now")
+}
+
+/// The same with malformed lines of durations: a case without any duration, one with two, and one
+/// that is never run.
+pub(crate) fn malformed_durations(text: &mut String) {
+    text.push_str("# malformed durations within a case without any\nS 001A 0063\n");
+    write(MALFORMED_DURATIONS, text);
+    text.push_str("G 0000 0002\n");
+    text.push_str("# malformed durations within a case\nD 0101 0025\nD 0000 004B\n");
+    write(MALFORMED_DURATIONS, text);
+    text.push_str("G 0000 0002\n");
+    text.push_str("# a case without its run, and a last line without its end\nD 0000 0001\nfoo");
 }

@@ -4,6 +4,7 @@
 mod answer;
 mod case;
 mod commands;
+mod durations;
 mod edges;
 mod entries;
 mod known;
@@ -17,9 +18,10 @@ mod table;
 mod wraps;
 
 pub use answer::answers;
+use case::Case;
 
-/// The input: all cases, then lines that are malformed.
-pub fn input() -> String {
+/// The cases of all groups but that of durations.
+fn cases() -> Vec<Case> {
     let mut cases = Vec::new();
     known::cases(&mut cases);
     opcodes::cases(&mut cases);
@@ -32,10 +34,30 @@ pub fn input() -> String {
     readings::cases(&mut cases);
     programs::cases(&mut cases);
     lines::refusals(&mut cases);
-    let mut text = String::from("# Cases (docs/TEST-CASES.md), written by the second simulator.\n");
-    for (number, case) in (1..).zip(&cases) {
-        case.write(number, &mut text);
+    cases
+}
+
+/// The cases of durations, after the one that is left open before them.
+fn timed_cases() -> Vec<Case> {
+    let mut cases = vec![lines::left_open()];
+    durations::cases(&mut cases);
+    cases
+}
+
+/// The lines of some cases, numbered from one on.
+fn write(cases: &[Case], first: usize, text: &mut String) {
+    for (number, case) in (first..).zip(cases) {
+        case.write(number, text);
     }
+}
+
+/// The input: cases, then malformed lines within a case of their own; then the same of durations.
+pub fn input() -> String {
+    let mut text = String::from("# Cases (docs/TEST-CASES.md), written by the second simulator.\n");
+    let cases = cases();
+    write(&cases, 1, &mut text);
     lines::malformed(&mut text);
+    write(&timed_cases(), cases.len() + 2, &mut text);
+    lines::malformed_durations(&mut text);
     text
 }

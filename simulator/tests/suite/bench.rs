@@ -1,6 +1,6 @@
 //! The test bench: a machine with its memory, and checks that read like sentences.
 
-use simulator::{reset, run, State};
+use simulator::{reset, run, State, DURATIONS};
 
 /// Where the tests put their code.
 pub const CODE: u16 = 0x0100;
@@ -12,6 +12,7 @@ pub struct Bench {
     pub memory: Vec<u16>,
     pub pages: Vec<u16>,
     pub ports: Vec<u16>,
+    pub durations: Vec<u16>,
 }
 
 /// A machine of 65,536 words after reset, the code at 0100 and IC on it.
@@ -20,11 +21,11 @@ pub fn on(code: &[u16]) -> Bench {
 }
 
 impl Bench {
-    /// A machine of some words after reset.
+    /// A machine of some words after reset, every step of 100 tenths.
     pub fn sized(words: usize) -> Bench {
         let (mut memory, mut pages, mut ports) = (vec![0; words], vec![0; 512], vec![0; 1024]);
         let state = reset(&mut memory, &mut pages, &mut ports);
-        Bench { state, memory, pages, ports }
+        Bench { state, memory, pages, ports, durations: vec![100; DURATIONS] }
     }
 
     /// Sets IC.
@@ -66,10 +67,34 @@ impl Bench {
         self
     }
 
+    /// Sets timers A and B.
+    pub fn timers(mut self, a: u16, b: u16) -> Bench {
+        (self.state.timer_a, self.state.timer_b) = (a, b);
+        self
+    }
+
+    /// Sets the remainders of timers A and B.
+    pub fn remainders(mut self, a: u16, b: u16) -> Bench {
+        (self.state.remainder_a, self.state.remainder_b) = (a, b);
+        self
+    }
+
+    /// Sets all durations.
+    pub fn all(mut self, tenths: u16) -> Bench {
+        self.durations.fill(tenths);
+        self
+    }
+
+    /// Sets the duration of an opcode, or with 256 that of a step without a first word.
+    pub fn lasting(mut self, number: usize, tenths: u16) -> Bench {
+        self.durations[number] = tenths;
+        self
+    }
+
     /// Makes some steps.
     pub fn steps(mut self, budget: u32) -> Bench {
-        let Bench { state, memory, pages, ports } = &mut self;
-        run(state, memory, pages, ports, budget).expect("an accepted run");
+        let Bench { state, memory, pages, ports, durations } = &mut self;
+        run(state, memory, pages, ports, durations, budget).expect("an accepted run");
         self
     }
 
@@ -126,6 +151,22 @@ impl Bench {
         self
     }
 
+    /// Checks timer A and its remainder.
+    #[track_caller]
+    pub fn a(self, timer: u16, remainder: u16) -> Bench {
+        let found = (self.state.timer_a, self.state.remainder_a);
+        assert!(found == (timer, remainder), "A is {found:X?}, not {:X?}", (timer, remainder));
+        self
+    }
+
+    /// Checks timer B and its remainder.
+    #[track_caller]
+    pub fn b(self, timer: u16, remainder: u16) -> Bench {
+        let found = (self.state.timer_b, self.state.remainder_b);
+        assert!(found == (timer, remainder), "B is {found:X?}, not {:X?}", (timer, remainder));
+        self
+    }
+
     /// Checks an accepted instruction: no faults, these pending interrupts, this CS.
     #[track_caller]
     pub fn fine(self, condition: u16, pi: u16) -> Bench {
@@ -133,7 +174,7 @@ impl Bench {
     }
 }
 
-/// Makes one step and checks that it changes nothing but what a fault changes.
+/// Makes one step of 100 tenths and checks that it changes nothing but what a fault changes.
 #[track_caller]
 pub fn refused(before: Bench, ft: u16, ic: u16) -> Bench {
     let after = before.clone().go();
@@ -144,6 +185,7 @@ pub fn refused(before: Bench, ft: u16, ic: u16) -> Bench {
     expected.state.hold = false;
     expected.state.counter += 1;
     expected.state.timer_a = expected.state.timer_a.wrapping_add(1);
+    expected.state.remainder_b += 100;
     assert_eq!(after.state, expected.state);
     assert!(after.memory == expected.memory, "memory has changed");
     assert!(after.pages == expected.pages, "page registers have changed");

@@ -4,7 +4,7 @@
 use crate::forms::{form, Form};
 use crate::opcodes::length;
 use simulator::test_cases::{answers, input};
-use std::collections::BTreeMap;
+use std::collections::{BTreeMap, BTreeSet};
 use std::sync::OnceLock;
 
 /// Places in the words of the state.
@@ -13,7 +13,13 @@ const SW: usize = 17;
 pub const MK: usize = 18;
 pub const PI: usize = 19;
 pub const FT: usize = 20;
-const MARKS: usize = 21;
+pub const MARKS: usize = 21;
+/// Timer A, and after it timer B.
+pub const TIMERS: usize = 22;
+/// The counter's words, the high one first.
+const COUNTER: usize = 24;
+/// The remainder of timer A, and after it that of timer B.
+pub const REMAINDERS: usize = 26;
 
 /// The commands of 5.1 that the machine has: the first and the last code of each.
 pub const COMMANDS: [(u16, u16); 13] = [
@@ -65,16 +71,19 @@ pub enum Stage {
     Done,
 }
 
-/// A case: its entries, and the state and the changed words after its run.
+/// A case: its entries, and the state and the changed words after its run. The remainders after it
+/// are known where the case is timed, which is where an entry names a duration.
 pub struct Case {
     pub title: String,
-    pub before: [u16; 22],
+    pub before: [u16; 28],
     memory: BTreeMap<u16, u16>,
     pages: [u16; 512],
-    size: usize,
+    pub durations: Vec<u16>,
+    pub timed: bool,
+    pub lent: [usize; 4],
     pub steps: u32,
     pub answer: u32,
-    pub after: [u16; 22],
+    pub after: [u16; 28],
     pub changed: BTreeMap<(char, u16), u16>,
 }
 
@@ -98,40 +107,61 @@ fn entry(line: &str) -> (char, u16, u16) {
     (line.chars().next().expect("a letter"), hex(&line[2..6]), hex(&line[7..11]))
 }
 
-/// Every accepted case, the malformed lines and the case among them aside.
-pub fn cases() -> &'static [Case] {
-    static CASES: OnceLock<Vec<Case>> = OnceLock::new();
+/// The numbers of the malformed lines of the input, counted from 1.
+fn malformed() -> BTreeSet<usize> {
+    let lines = texts().1.lines().filter_map(|line| line.strip_prefix("malformed line "));
+    lines.map(|number| number.parse().expect("the number of a line")).collect()
+}
+
+/// Every case with its number in its title: all but those that have malformed lines among their
+/// entries. Malformed lines are passed over. First the accepted cases, then the refused ones.
+fn all_cases() -> &'static [Vec<Case>; 2] {
+    static CASES: OnceLock<[Vec<Case>; 2]> = OnceLock::new();
     CASES.get_or_init(|| {
         let (input, output) = texts();
-        let (input, _) = input.split_once("# malformed").expect("malformed lines");
+        let malformed = malformed();
         let mut results = output.split("case ").skip(1);
         let (mut cases, mut case) = (Vec::new(), Case::new());
-        for line in input.lines() {
+        for (_, line) in (1..).zip(input.lines()).filter(|(number, _)| !malformed.contains(number))
+        {
             case.start(line);
             if line.starts_with('G') {
                 case.end(results.next().expect("a result"));
                 cases.push(std::mem::replace(&mut case, Case::new()));
             }
         }
-        cases.retain(|case| case.answer == 0);
-        cases
+        cases.retain(|case| case.number().is_some());
+        let (accepted, refused) = cases.into_iter().partition(|case| case.answer == 0);
+        [accepted, refused]
     })
+}
+
+/// Every accepted case.
+pub fn cases() -> &'static [Case] {
+    &all_cases()[0]
+}
+
+/// Every refused case.
+pub fn refused_cases() -> &'static [Case] {
+    &all_cases()[1]
 }
 
 impl Case {
     /// A case with everything as after reset.
     fn new() -> Case {
-        let mut before = [0; 22];
+        let mut before = [0; 28];
         before[MARKS] = 0x000C;
         Case {
             title: String::new(),
             before,
             memory: BTreeMap::new(),
             pages: std::array::from_fn(|number| number as u16 % 16),
-            size: 0x4000,
+            durations: vec![100; 257],
+            timed: false,
+            lent: [0x4000, 0x0200, 0x0400, 0x0101],
             steps: 0,
             answer: 0,
-            after: [0; 22],
+            after: [0; 28],
             changed: BTreeMap::new(),
         }
     }
@@ -145,10 +175,12 @@ impl Case {
         let (kind, number, word) = entry(line);
         let index = usize::from(number);
         match kind {
-            'S' if index < self.before.len() => self.before[index] = word,
+            'S' => self.before[index] = word,
             'M' => _ = self.memory.insert(number, word),
             'P' => self.pages[index] = word,
-            'L' if number == 0 => self.size = usize::from(word),
+            'D' if number == 0x0101 => (self.durations, self.timed) = (vec![word; 257], true),
+            'D' => (self.durations[index], self.timed) = (word, true),
+            'L' => self.lent[index] = usize::from(word),
             'G' => self.steps = (u32::from(number) << 16) | u32::from(word),
             _ => (),
         }
@@ -158,7 +190,7 @@ impl Case {
     fn end(&mut self, text: &str) {
         let lines: Vec<&str> = text.lines().collect();
         let (number, answer) = lines[0].split_once(" answer ").expect("number and answer");
-        assert!(self.title.starts_with(&format!("# {number} ")), "{}: {number}", self.title);
+        assert!(self.number().is_none_or(|told| told == number), "{}: {number}", self.title);
         self.answer = answer.parse().expect("a number");
         let fields: Vec<&str> = lines[2].split(' ').collect();
         for (place, field) in (IC..).zip(fields.chunks(2)) {
@@ -168,10 +200,35 @@ impl Case {
         for (place, word) in registers.enumerate() {
             self.after[place] = hex(word);
         }
-        let marks = lines[5].split(' ').nth(5).expect("the marks");
-        self.after[MARKS] = hex(marks);
+        self.end_times(&lines[5..]);
         let changes = lines[6..].iter().filter(|line| "MPO".contains(&line[..1]));
         self.changed = changes.map(|line| entry(line)).map(|(k, n, w)| ((k, n), w)).collect();
+    }
+
+    /// Takes the line of timers, marks and counter, and that of the remainders where there is one.
+    fn end_times(&mut self, lines: &[&str]) {
+        let times: Vec<&str> = lines[0].split(' ').collect();
+        (self.after[TIMERS], self.after[TIMERS + 1]) = (hex(times[1]), hex(times[3]));
+        self.after[MARKS] = hex(times[5]);
+        let count: u32 = times[7].parse().expect("the counter");
+        (self.after[COUNTER], self.after[COUNTER + 1]) = ((count >> 16) as u16, count as u16);
+        let next = lines.get(1).and_then(|line| line.strip_prefix("remainders "));
+        assert_eq!(next.is_some(), self.timed, "{}: remainders", self.title);
+        for (place, number) in (REMAINDERS..).zip(next.into_iter().flat_map(|next| next.split(' ')))
+        {
+            self.after[place] = number.parse().expect("a remainder");
+        }
+    }
+
+    /// The number in the title, nothing for the cases with malformed lines among their entries.
+    fn number(&self) -> Option<&str> {
+        let (number, _) = self.title.strip_prefix("# ")?.split_once(' ')?;
+        number.bytes().all(|byte| byte.is_ascii_digit()).then_some(number)
+    }
+
+    /// The counter before the run.
+    pub fn counter(&self) -> u64 {
+        u64::from(self.before[COUNTER]) << 16 | u64::from(self.before[COUNTER + 1])
     }
 
     /// IC before the run.
@@ -233,7 +290,7 @@ impl Case {
         if locked || protected {
             Some(0x8000)
         } else {
-            (place(register, address) >= self.size).then_some(0x0080)
+            (place(register, address) >= self.lent[0]).then_some(0x0080)
         }
     }
 

@@ -3,13 +3,19 @@
 use crate::bench::Bench;
 use simulator::{load, run, State};
 
-/// Runs with lists of these sizes and checks that a refusal changes nothing.
+/// Runs with lists of these sizes and 257 durations.
 fn run_with(sizes: [usize; 3], counter: u32, budget: u32) -> Result<(), u32> {
-    let state = State { counter, ic: 3, ..State::default() };
+    run_lent(sizes, 257, counter, budget)
+}
+
+/// Runs with lists of these sizes and so many durations, and checks that a refusal changes nothing.
+pub fn run_lent(sizes: [usize; 3], durations: usize, counter: u32, budget: u32) -> Result<(), u32> {
+    let state = State { counter, ic: 3, remainder_a: 77, remainder_b: 777, ..State::default() };
+    let durations = vec![100; durations];
     let lists = sizes.map(|size| vec![0xFF00u16; size]);
     let (mut after, mut changed) = (state.clone(), lists.clone());
     let [memory, pages, ports] = &mut changed;
-    let answer = run(&mut after, memory, pages, ports, budget);
+    let answer = run(&mut after, memory, pages, ports, &durations, budget);
     if answer.is_err() {
         assert!(after == state && changed == lists, "a refusal changes something");
     }
@@ -40,10 +46,10 @@ fn image(entries: &[(u16, u32, u32)], words: &[u16]) -> Vec<u8> {
     bytes
 }
 
-const GOOD: [usize; 3] = [4096, 512, 1024];
+pub const GOOD: [usize; 3] = [4096, 512, 1024];
 
 /// A machine of which every part differs from reset.
-fn used() -> Bench {
+pub fn used() -> Bench {
     let state = State {
         r: std::array::from_fn(|number| 0xA0A0 + number as u16),
         ic: 0x0102,
@@ -55,17 +61,19 @@ fn used() -> Bench {
         hold: true,
         timer_a: 0x1234,
         timer_b: 0x1234,
+        remainder_a: 0x0042,
+        remainder_b: 0x0342,
         timer_a_running: false,
         timer_b_running: false,
         counter: 77,
     };
     let (memory, pages, ports) = (vec![0xFFFF; 4096], vec![0xF8FF; 512], vec![0x5555; 1024]);
-    Bench { state, memory, pages, ports }
+    Bench { state, memory, pages, ports, durations: vec![100; 257] }
 }
 
 /// Loads into a machine; a refusal leaves its state.
-fn load_on(machine: &mut Bench, image: &[u8]) -> Result<(), u32> {
-    let Bench { state, memory, pages, ports } = machine;
+pub fn load_on(machine: &mut Bench, image: &[u8]) -> Result<(), u32> {
+    let Bench { state, memory, pages, ports, .. } = machine;
     *state = load(image, memory, pages, ports)?;
     Ok(())
 }
@@ -280,18 +288,16 @@ fn loading_all_control_words() {
 
 #[test]
 fn budget_zero_changes_nothing() {
-    let mut state = State { pi: 0xFFFF, hold: true, ..State::default() };
-    let before = state.clone();
-    let (mut memory, mut pages, mut ports) = (vec![1; 4096], vec![2; 512], vec![3; 1024]);
-    assert_eq!(run(&mut state, &mut memory, &mut pages, &mut ports, 0), Ok(()));
-    assert_eq!(state, before);
-    assert!(memory == vec![1; 4096] && pages == vec![2; 512] && ports == vec![3; 1024]);
+    let before = used();
+    assert!(before.clone().steps(0) == before);
+    let before = Bench { durations: vec![u16::MAX; 257], ..used() }.remainders(999, 60_000);
+    assert!(before.clone().steps(0) == before);
 }
 
 #[test]
 fn run_makes_exactly_its_budget() {
-    let mut state = State::default();
-    let (mut memory, mut pages, mut ports) = (vec![0xFF00; 4096], vec![0; 512], vec![0; 1024]);
-    assert_eq!(run(&mut state, &mut memory, &mut pages, &mut ports, 123), Ok(()));
-    assert_eq!((state.counter, state.ic, state.timer_a, state.timer_b), (123, 123, 123, 12));
+    let mut bench = Bench::sized(4096);
+    bench.memory.fill(0xFF00);
+    let bench = bench.steps(123).ic(123).a(123, 0).b(12, 300);
+    assert_eq!(bench.state.counter, 123);
 }

@@ -4,7 +4,7 @@ use crate::bench::{Bench, Numbers};
 use simulator::step;
 
 /// A machine with random words everywhere and page registers that admit most accesses.
-fn some_machine(numbers: &mut Numbers) -> Bench {
+pub fn some_machine(numbers: &mut Numbers) -> Bench {
     let mut bench = Bench::sized(12_288);
     for word in bench.memory.iter_mut() {
         *word = numbers.word();
@@ -42,6 +42,7 @@ fn only_a_fault(before: &Bench, after: &Bench) -> bool {
     (expected.ic, expected.ft, expected.pi) = (after.state.ic, after.state.ft, after.state.pi);
     (expected.counter, expected.hold) = (after.state.counter, false);
     (expected.timer_a, expected.timer_b) = (after.state.timer_a, after.state.timer_b);
+    expected.remainder_b = after.state.remainder_b;
     let advance = after.state.ic.wrapping_sub(before.state.ic);
     (1..=2).contains(&advance)
         && expected == after.state
@@ -90,8 +91,8 @@ fn runs_may_be_cut_up() {
         assert!(whole == parts);
         let mut singly = bench;
         for _ in 0..1000 {
-            let Bench { state, memory, pages, ports } = &mut singly;
-            step(state, memory, pages, ports);
+            let Bench { state, memory, pages, ports, durations } = &mut singly;
+            step(state, memory, pages, ports, durations);
         }
         assert!(whole == singly);
     }

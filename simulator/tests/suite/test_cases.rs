@@ -1,7 +1,7 @@
 //! The cases that another simulator is run on: that the files kept for it are still what this one
 //! writes, and that they show what docs/TEST-CASES.md says, by their entries and results.
 
-use crate::cases::{cases, texts, Access, Case, Stage, COMMANDS, FT, IC, MK, PI};
+use crate::cases::{cases, texts, Access, Case, Stage, COMMANDS, FT, IC, MK, PI, TIMERS};
 use crate::forms::{form, forms, Form};
 use crate::opcodes::length;
 use std::collections::BTreeSet;
@@ -31,7 +31,7 @@ fn kept_files_are_what_is_written() {
 #[test]
 fn every_refusal_and_malformed_lines() {
     let (input, output) = texts();
-    for answer in 0..=5 {
+    for answer in [0, 1, 2, 3, 17, 4, 5] {
         assert!(output.contains(&format!(" answer {answer}\n")), "answer {answer}");
     }
     let (_, lines) = input.split_once("# malformed").expect("malformed lines");
@@ -164,13 +164,21 @@ fn enters(case: &Case, pointers: u16, distance: u16) -> bool {
     new == case.new_state() && stored == old && new != old && !case.enabled_after()
 }
 
+/// The bits of PI that timers set in an entry: one that has passed its end is lower than before.
+fn set_by_timers(case: &Case) -> u16 {
+    let passed = |number: usize| case.after[TIMERS + number] < case.before[TIMERS + number];
+    let bits = [(0, 0x0100), (1, 0x0040)].into_iter();
+    bits.filter(|(number, _)| passed(*number)).map(|(_, bit)| bit).sum()
+}
+
 #[test]
 fn every_interrupt_is_entered() {
     let mut found = BTreeSet::new();
     for case in cases().iter().filter(|case| case.steps == 1 && case.after[FT] == case.before[FT]) {
         let Some(number) = case.entry() else { continue };
         let bit = 0x8000 >> number;
-        assert_eq!(case.before[PI] & !case.after[PI], bit, "{}", case.title);
+        let cleared = bit & !set_by_timers(case);
+        assert_eq!(case.before[PI] & !case.after[PI], cleared, "{}", case.title);
         assert!(enters(case, 32 + 2 * number, 2), "{}", case.title);
         found.insert((number, case.before[MK] & bit != 0, case.enabled_and_held()[0]));
     }

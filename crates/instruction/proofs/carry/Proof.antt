@@ -1,4 +1,4 @@
--- Written by tools/prove.py from answers/instruction.py: answer ae9247c22550, proof 91ac39f75f05.
+-- Written by tools/prove.py from answers/instruction.py: answer 78c2fe17e0e8, proof 91ac39f75f05.
 -- `instruction::carry` meets its contract. Assumes nothing.
 use Rattle.form_table.proofs.NumberLaws.{number-least, number-path, number-block, number-rest}
 use Rattle.instruction.proofs.UserLaws.{on-block, off-block}

@@ -1,4 +1,4 @@
--- Written by tools/prove.py from answers/instruction.py: answer 855fe4f304db, proof cc0a6b9f3bd7.
+-- Written by tools/prove.py from answers/instruction.py: answer 0542cbe86f74, proof 00b2532be8e9.
 -- `instruction::carry_block` meets its contract. Assumes nothing.
 use Rattle.block_one_page.proofs.HereLaws.{attempt-done, attempt-left}
 use Rattle.instruction_retired.proofs.ActLaws.{carried-clear}
@@ -17,7 +17,7 @@ try-block-requires c κs = (c .before .before .before .before .pre .0, c .before
 
 returns : tie.Need-returns
 unfolding operated mil1750 contextOf
-returns c = λ ports. (λ s. rw (c .weighed .ensures, command-none _ _, ← carried-clear (withProcessor s (joined (c .before .before .before .before .before .before .before .before .before .args .core) (c .before .before .before .before .before .before .before .before .before .args .regs .now))) (c .before .before .before .before .before .before .before .before .before .args .memory .now) (c .before .before .before .before .before .before .before .before .before .args .pages .now) ports (c .before .before .before .before .before .before .before .before .before .args .n) _ _ _ refl refl refl (attempt-done (joined (c .before .before .before .before .before .before .before .before .before .args .core) (c .before .before .before .before .before .before .before .before .before .args .regs .now)) (c .before .before .before .before .before .before .before .before .before .args .memory .now) (c .before .before .before .before .before .before .before .before .before .args .pages .now) (c .before .before .before .before .before .before .before .before .before .args .n) _ _ _ (c .before .if1 .taken) (c .before .before .before .before .try-block .ensures) .admitted), block-user _ (c .before .before .before .before .before .before .before .before .before .pre .1)) (became-worked (withProcessor s (joined (c .before .before .before .before .before .before .before .before .before .args .core) (c .before .before .before .before .before .before .before .before .before .args .regs .now))) (c .before .before .before .before .before .before .before .before .before .args .memory .now) (c .before .before .before .before .before .before .before .before .before .args .pages .now) ports (c .before .before .before .before .before .before .before .before .before .args .n) _ _ _ (attempt-done (joined (c .before .before .before .before .before .before .before .before .before .args .core) (c .before .before .before .before .before .before .before .before .before .args .regs .now)) (c .before .before .before .before .before .before .before .before .before .args .memory .now) (c .before .before .before .before .before .before .before .before .before .args .pages .now) (c .before .before .before .before .before .before .before .before .before .args .n) _ _ _ (c .before .if1 .taken) (c .before .before .before .before .try-block .ensures) .worked)), settled-by (c .before .before .before .before .before .before .before .before .before .args .core) _ _ (c .before .before .before .before .before .before .before .before .before .args .regs .now) _ _ (c .weighed .ensures) (attempt-done (joined (c .before .before .before .before .before .before .before .before .before .args .core) (c .before .before .before .before .before .before .before .before .before .args .regs .now)) (c .before .before .before .before .before .before .before .before .before .args .memory .now) (c .before .before .before .before .before .before .before .before .before .args .pages .now) (c .before .before .before .before .before .before .before .before .before .args .n) _ _ _ (c .before .if1 .taken) (c .before .before .before .before .try-block .ensures) .worked .processor-is))
+returns c = λ ports. (λ s. rw (c .weighed .ensures, command-none _ _, ← carried-clear (withProcessor s (joined (c .before .before .before .before .before .before .before .before .before .args .core) (c .before .before .before .before .before .before .before .before .before .args .regs .now))) (c .before .before .before .before .before .before .before .before .before .args .memory .now) (c .before .before .before .before .before .before .before .before .before .args .pages .now) ports (c .before .before .before .before .before .before .before .before .before .args .n) _ _ _ refl refl refl (attempt-done (joined (c .before .before .before .before .before .before .before .before .before .args .core) (c .before .before .before .before .before .before .before .before .before .args .regs .now)) (c .before .before .before .before .before .before .before .before .before .args .memory .now) (c .before .before .before .before .before .before .before .before .before .args .pages .now) (c .before .before .before .before .before .before .before .before .before .args .n) _ _ _ (c .before .if1 .taken) (c .before .before .before .before .try-block .ensures) .admitted), block-user _ (c .before .before .before .before .before .before .before .before .before .pre .1)) (became-worked (withProcessor s (joined (c .before .before .before .before .before .before .before .before .before .args .core) (c .before .before .before .before .before .before .before .before .before .args .regs .now))) (c .before .before .before .before .before .before .before .before .before .args .memory .now) (c .before .before .before .before .before .before .before .before .before .args .pages .now) ports (c .before .before .before .before .before .before .before .before .before .args .n) _ _ _ (attempt-done (joined (c .before .before .before .before .before .before .before .before .before .args .core) (c .before .before .before .before .before .before .before .before .before .args .regs .now)) (c .before .before .before .before .before .before .before .before .before .args .memory .now) (c .before .before .before .before .before .before .before .before .before .args .pages .now) (c .before .before .before .before .before .before .before .before .before .args .n) _ _ _ (c .before .if1 .taken) (c .before .before .before .before .try-block .ensures) .worked)), settled-by (c .before .before .before .before .before .before .before .before .before .args .core) _ _ (c .before .before .before .before .before .before .before .before .before .args .regs .now) _ _ _ (c .weighed .ensures) (attempt-done (joined (c .before .before .before .before .before .before .before .before .before .args .core) (c .before .before .before .before .before .before .before .before .before .args .regs .now)) (c .before .before .before .before .before .before .before .before .before .args .memory .now) (c .before .before .before .before .before .before .before .before .before .args .pages .now) (c .before .before .before .before .before .before .before .before .before .args .n) _ _ _ (c .before .if1 .taken) (c .before .before .before .before .try-block .ensures) .worked .processor-is))
 
 carry-words-requires : tie.Need-carry-words-requires
 carry-words-requires c κs = (c .before .before .before .before .before .before .before .before .before .before .pre .0, c .before .before .before .before .before .before .before .before .before .before .pre .1)

@@ -1,4 +1,4 @@
--- Written by tools/prove.py from answers/instruction.py: answer 8affe53be6be, proof 7c8a15f74c69.
+-- Written by tools/prove.py from answers/instruction.py: answer 8a7f55e3c807, proof 649e35d2e9a2.
 -- `instruction::carry_ordinary` meets its contract. Assumes nothing.
 use Rattle.instruction_retired.proofs.ActLaws.{words-read, carried-read, carried-denied, failed}
 use Rattle.instruction_retired.proofs.RetiredLaws.{command-none, unsettled-lasting}
@@ -25,7 +25,7 @@ returns : tie.Need-returns
 returns c = λ ports. (λ s. rw (← carried-read (withProcessor s (joined (c .before .before .before .before .before .before .before .before .before .before .before .before .before .args .core) (c .before .before .before .before .before .before .before .before .before .before .before .before .before .args .regs .now))) (c .before .before .before .before .before .before .before .before .before .before .before .before .before .args .memory .now) (c .before .before .before .before .before .before .before .before .before .before .before .before .before .args .pages .now) (c .before .before .before .before .before .before .before .before .before .before .before .before .before .args .n) _ _ (c .before .before .before .before .before .before .before .before .before .before .before .before .before .pre .1 .key-is) (c .before .before .before .before .before .before .before .before .before .before .before .before .before .pre .1 .group-is) _ _ _ (reads-by (c .before .before .before .before .before .before .before .before .before .before .before .before .before .args .regs .now) (c .before .before .before .before .before .before .before .before .before .before .before .before .before .args .n) _ _ _ refl (c .before .before .before .before .before .before .before .before .before .before .before .before .before .pre .3) (c .before .before .before .before .before .before .before .before .before .read-start .ensures .0) (c .before .before .before .before .before .before .before .read-count .ensures .0)) (c .before .before .before .before .before .before .gather .ensures) ports (c .before .before .before .before .before .if1 .taken)) (c .before .before .proceed .ensures ports .0 s), c .before .before .proceed .ensures ports .1)
 
 returns-2 : tie.Need-returns-2
-returns-2 c = λ ports. (λ s. rw (c .deny .ensures, command-none _ _, ← carried-denied (withProcessor s (joined (c .before .before .before .before .before .before .before .before .before .before .before .args .core) (c .before .before .before .before .before .before .before .before .before .before .before .args .regs .now))) (c .before .before .before .before .before .before .before .before .before .before .before .args .memory .now) (c .before .before .before .before .before .before .before .before .before .before .before .args .pages .now) (c .before .before .before .before .before .before .before .before .before .before .before .args .n) _ _ (c .before .before .before .before .before .before .before .before .before .before .before .pre .1 .key-is) (c .before .before .before .before .before .before .before .before .before .before .before .pre .1 .group-is) _ _ _ (reads-by (c .before .before .before .before .before .before .before .before .before .before .before .args .regs .now) (c .before .before .before .before .before .before .before .before .before .before .before .args .n) _ _ _ refl (c .before .before .before .before .before .before .before .before .before .before .before .pre .3) (c .before .before .before .before .before .before .before .read-start .ensures .0) (c .before .before .before .before .before .read-count .ensures .0)) (c .before .before .before .before .gather .ensures) ports (c .before .before .before .if1 .left), ← c .before .advance .ensures) (failed (withProcessor s (joined (c .before .before .before .before .before .before .before .before .before .before .before .args .core) (c .before .before .before .before .before .before .before .before .before .before .before .args .regs .now))) _ (c .before .before .before .before .before .before .before .before .before .before .before .args .memory .now) _ (c .before .before .before .before .before .before .before .before .before .before .before .args .pages .now) ports _ _ (refl) refl), rw (c .deny .ensures) (unsettled-lasting _ _ refl))
+returns-2 c = λ ports. (λ s. rw (c .deny .ensures, command-none _ _, ← carried-denied (withProcessor s (joined (c .before .before .before .before .before .before .before .before .before .before .before .args .core) (c .before .before .before .before .before .before .before .before .before .before .before .args .regs .now))) (c .before .before .before .before .before .before .before .before .before .before .before .args .memory .now) (c .before .before .before .before .before .before .before .before .before .before .before .args .pages .now) (c .before .before .before .before .before .before .before .before .before .before .before .args .n) _ _ (c .before .before .before .before .before .before .before .before .before .before .before .pre .1 .key-is) (c .before .before .before .before .before .before .before .before .before .before .before .pre .1 .group-is) _ _ _ (reads-by (c .before .before .before .before .before .before .before .before .before .before .before .args .regs .now) (c .before .before .before .before .before .before .before .before .before .before .before .args .n) _ _ _ refl (c .before .before .before .before .before .before .before .before .before .before .before .pre .3) (c .before .before .before .before .before .before .before .read-start .ensures .0) (c .before .before .before .before .before .read-count .ensures .0)) (c .before .before .before .before .gather .ensures) ports (c .before .before .before .if1 .left), ← c .before .advance .ensures) (failed (withProcessor s (joined (c .before .before .before .before .before .before .before .before .before .before .before .args .core) (c .before .before .before .before .before .before .before .before .before .before .before .args .regs .now))) _ (c .before .before .before .before .before .before .before .before .before .before .before .args .memory .now) _ (c .before .before .before .before .before .before .before .before .before .before .before .args .pages .now) ports _ _ (refl) refl), rw (c .deny .ensures) (unsettled-lasting _ _ _))
 
 pub carry-ordinary-spec : {M : Type 1} → statement M
 carry-ordinary-spec =

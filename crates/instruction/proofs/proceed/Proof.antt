@@ -1,4 +1,4 @@
--- Written by tools/prove.py from answers/instruction.py: answer c2b62092caff, proof a1a3b761f11a.
+-- Written by tools/prove.py from answers/instruction.py: answer e2479b372d6e, proof 5f299292de48.
 -- `instruction::proceed` meets its contract. Assumes nothing.
 use Rattle.fast_accumulate.proofs.PathLaws.{path-user}
 use Rattle.instruction_retired.proofs.ActLaws.{accessed-clear, accessed-fault, failed}
@@ -27,11 +27,11 @@ work-requires c κs = (c .before .before .before .before .before .before .before
 
 returns : tie.Need-returns
 unfolding operated mil1750 contextOf
-returns c = λ ports. (λ s. rw (c .weighed .ensures, command-none _ _, ← accessed-clear (withProcessor s (joined (c .before .before .before .before .before .before .before .before .before .before .before .before .before .before .before .args .core) (c .before .before .before .before .before .before .before .before .before .before .before .before .before .before .before .args .regs .now))) (c .before .before .before .before .before .before .before .before .before .before .before .before .before .before .before .args .memory .now) (c .before .before .before .before .before .before .before .before .before .before .before .before .before .before .before .args .pages .now) ports (c .before .before .before .before .before .before .before .before .before .before .before .before .before .before .before .args .n) _ _ _ _ (c .before .before .before .before .before .before .before .before .before .before .before .before .before .before .before .pre .3 .key-is) (c .before .before .before .before .before .before .before .before .before .before .before .before .before .before .before .pre .3 .group-is) (c .before .before .before .before .before .before .before .before .before .span-from .ensures ∙ writes-by (c .before .before .before .before .before .before .before .before .before .before .before .before .before .before .before .args .regs .now) (c .before .before .before .before .before .before .before .before .before .before .before .before .before .before .before .args .n) _ _ _ refl (c .before .before .before .before .before .before .before .before .before .before .before .before .before .before .before .pre .1) (c .before .before .before .before .before .before .before .before .before .before .before .write-start .ensures .0) (c .before .before .before .before .before .before .before .before .before .before .write-count .ensures .0)) (c .before .before .before .before .before .before .before .before .check-span .ensures) (c .before .before .before .before .before .before .enum-told .given .1), path-user (c .before .before .before .before .before .before .before .before .before .before .before .before .before .before .before .args .n) 0 (c .before .before .before .before .before .before .before .before .before .before .before .before .before .before .before .pre .5) (omega arith)) (became-worked (withProcessor s (joined (c .before .before .before .before .before .before .before .before .before .before .before .before .before .before .before .args .core) (c .before .before .before .before .before .before .before .before .before .before .before .before .before .before .before .args .regs .now))) (c .before .before .before .before .before .before .before .before .before .before .before .before .before .before .before .args .memory .now) (c .before .before .before .before .before .before .before .before .before .before .before .before .before .before .before .args .pages .now) ports (c .before .before .before .before .before .before .before .before .before .before .before .before .before .before .before .args .n) _ _ _ (worked-ordinary (joined (c .before .before .before .before .before .before .before .before .before .before .before .before .before .before .before .args .core) (c .before .before .before .before .before .before .before .before .before .before .before .before .before .before .before .args .regs .now)) (c .before .before .before .before .before .before .before .before .before .before .before .before .before .before .before .args .memory .now) (c .before .before .before .before .before .before .before .before .before .before .before .before .before .before .before .args .pages .now) (c .before .before .before .before .before .before .before .before .before .before .before .before .before .before .before .args .n) _ _ _ _ _ _ _ (c .before .before .before .before .before .before .before .before .before .before .before .before .before .before .before .pre .1) (c .before .before .before .before .before .before .before .before .before .before .before .before .before .before .before .pre .2) (c .before .before .before .before .before .before .before .before .before .span-from .ensures ∙ writes-by (c .before .before .before .before .before .before .before .before .before .before .before .before .before .before .before .args .regs .now) (c .before .before .before .before .before .before .before .before .before .before .before .before .before .before .before .args .n) _ _ _ refl (c .before .before .before .before .before .before .before .before .before .before .before .before .before .before .before .pre .1) (c .before .before .before .before .before .before .before .before .before .before .before .write-start .ensures .0) (c .before .before .before .before .before .before .before .before .before .before .write-count .ensures .0)) (c .before .before .before .work .ensures .0) (c .before .before .before .work .ensures .1))), settled-by (c .before .before .before .before .before .before .before .before .before .before .before .before .before .before .before .args .core) _ _ (c .before .before .before .before .before .before .before .before .before .before .before .before .before .before .before .args .regs .now) _ _ (c .weighed .ensures) (c .before .before .before .work .ensures .0))
+returns c = λ ports. (λ s. rw (c .weighed .ensures, command-none _ _, ← accessed-clear (withProcessor s (joined (c .before .before .before .before .before .before .before .before .before .before .before .before .before .before .before .args .core) (c .before .before .before .before .before .before .before .before .before .before .before .before .before .before .before .args .regs .now))) (c .before .before .before .before .before .before .before .before .before .before .before .before .before .before .before .args .memory .now) (c .before .before .before .before .before .before .before .before .before .before .before .before .before .before .before .args .pages .now) ports (c .before .before .before .before .before .before .before .before .before .before .before .before .before .before .before .args .n) _ _ _ _ (c .before .before .before .before .before .before .before .before .before .before .before .before .before .before .before .pre .3 .key-is) (c .before .before .before .before .before .before .before .before .before .before .before .before .before .before .before .pre .3 .group-is) (c .before .before .before .before .before .before .before .before .before .span-from .ensures ∙ writes-by (c .before .before .before .before .before .before .before .before .before .before .before .before .before .before .before .args .regs .now) (c .before .before .before .before .before .before .before .before .before .before .before .before .before .before .before .args .n) _ _ _ refl (c .before .before .before .before .before .before .before .before .before .before .before .before .before .before .before .pre .1) (c .before .before .before .before .before .before .before .before .before .before .before .write-start .ensures .0) (c .before .before .before .before .before .before .before .before .before .before .write-count .ensures .0)) (c .before .before .before .before .before .before .before .before .check-span .ensures) (c .before .before .before .before .before .before .enum-told .given .1), path-user (c .before .before .before .before .before .before .before .before .before .before .before .before .before .before .before .args .n) 0 (c .before .before .before .before .before .before .before .before .before .before .before .before .before .before .before .pre .5) (omega arith)) (became-worked (withProcessor s (joined (c .before .before .before .before .before .before .before .before .before .before .before .before .before .before .before .args .core) (c .before .before .before .before .before .before .before .before .before .before .before .before .before .before .before .args .regs .now))) (c .before .before .before .before .before .before .before .before .before .before .before .before .before .before .before .args .memory .now) (c .before .before .before .before .before .before .before .before .before .before .before .before .before .before .before .args .pages .now) ports (c .before .before .before .before .before .before .before .before .before .before .before .before .before .before .before .args .n) _ _ _ (worked-ordinary (joined (c .before .before .before .before .before .before .before .before .before .before .before .before .before .before .before .args .core) (c .before .before .before .before .before .before .before .before .before .before .before .before .before .before .before .args .regs .now)) (c .before .before .before .before .before .before .before .before .before .before .before .before .before .before .before .args .memory .now) (c .before .before .before .before .before .before .before .before .before .before .before .before .before .before .before .args .pages .now) (c .before .before .before .before .before .before .before .before .before .before .before .before .before .before .before .args .n) _ _ _ _ _ _ _ (c .before .before .before .before .before .before .before .before .before .before .before .before .before .before .before .pre .1) (c .before .before .before .before .before .before .before .before .before .before .before .before .before .before .before .pre .2) (c .before .before .before .before .before .before .before .before .before .span-from .ensures ∙ writes-by (c .before .before .before .before .before .before .before .before .before .before .before .before .before .before .before .args .regs .now) (c .before .before .before .before .before .before .before .before .before .before .before .before .before .before .before .args .n) _ _ _ refl (c .before .before .before .before .before .before .before .before .before .before .before .before .before .before .before .pre .1) (c .before .before .before .before .before .before .before .before .before .before .before .write-start .ensures .0) (c .before .before .before .before .before .before .before .before .before .before .write-count .ensures .0)) (c .before .before .before .work .ensures .0) (c .before .before .before .work .ensures .1))), settled-by (c .before .before .before .before .before .before .before .before .before .before .before .before .before .before .before .args .core) _ _ (c .before .before .before .before .before .before .before .before .before .before .before .before .before .before .before .args .regs .now) _ _ _ (c .weighed .ensures) (c .before .before .before .work .ensures .0))
 
 returns-2 : tie.Need-returns-2
 unfolding operated mil1750 contextOf
-returns-2 c = λ ports. (λ s. rw (c .deny .ensures, command-none _ _, ← accessed-fault (withProcessor s (joined (c .before .before .before .before .before .before .before .before .before .before .before .before .before .args .core) (c .before .before .before .before .before .before .before .before .before .before .before .before .before .args .regs .now))) (c .before .before .before .before .before .before .before .before .before .before .before .before .before .args .memory .now) (c .before .before .before .before .before .before .before .before .before .before .before .before .before .args .pages .now) ports (c .before .before .before .before .before .before .before .before .before .before .before .before .before .args .n) _ _ _ _ (c .before .before .before .before .before .before .before .before .before .before .before .before .before .pre .3 .key-is) (c .before .before .before .before .before .before .before .before .before .before .before .before .before .pre .3 .group-is) (c .before .before .before .before .before .before .before .span-from .ensures ∙ writes-by (c .before .before .before .before .before .before .before .before .before .before .before .before .before .args .regs .now) (c .before .before .before .before .before .before .before .before .before .before .before .before .before .args .n) _ _ _ refl (c .before .before .before .before .before .before .before .before .before .before .before .before .before .pre .1) (c .before .before .before .before .before .before .before .before .before .write-start .ensures .0) (c .before .before .before .before .before .before .before .before .write-count .ensures .0)) (c .before .before .before .before .before .before .check-span .ensures) _ (c .before .before .before .before .verdict .given .1), ← c .before .advance .ensures) (failed (withProcessor s (joined (c .before .before .before .before .before .before .before .before .before .before .before .before .before .args .core) (c .before .before .before .before .before .before .before .before .before .before .before .before .before .args .regs .now))) _ (c .before .before .before .before .before .before .before .before .before .before .before .before .before .args .memory .now) _ (c .before .before .before .before .before .before .before .before .before .before .before .before .before .args .pages .now) ports _ _ (refl) refl), rw (c .deny .ensures) (unsettled-lasting _ _ refl))
+returns-2 c = λ ports. (λ s. rw (c .deny .ensures, command-none _ _, ← accessed-fault (withProcessor s (joined (c .before .before .before .before .before .before .before .before .before .before .before .before .before .args .core) (c .before .before .before .before .before .before .before .before .before .before .before .before .before .args .regs .now))) (c .before .before .before .before .before .before .before .before .before .before .before .before .before .args .memory .now) (c .before .before .before .before .before .before .before .before .before .before .before .before .before .args .pages .now) ports (c .before .before .before .before .before .before .before .before .before .before .before .before .before .args .n) _ _ _ _ (c .before .before .before .before .before .before .before .before .before .before .before .before .before .pre .3 .key-is) (c .before .before .before .before .before .before .before .before .before .before .before .before .before .pre .3 .group-is) (c .before .before .before .before .before .before .before .span-from .ensures ∙ writes-by (c .before .before .before .before .before .before .before .before .before .before .before .before .before .args .regs .now) (c .before .before .before .before .before .before .before .before .before .before .before .before .before .args .n) _ _ _ refl (c .before .before .before .before .before .before .before .before .before .before .before .before .before .pre .1) (c .before .before .before .before .before .before .before .before .before .write-start .ensures .0) (c .before .before .before .before .before .before .before .before .write-count .ensures .0)) (c .before .before .before .before .before .before .check-span .ensures) _ (c .before .before .before .before .verdict .given .1), ← c .before .advance .ensures) (failed (withProcessor s (joined (c .before .before .before .before .before .before .before .before .before .before .before .before .before .args .core) (c .before .before .before .before .before .before .before .before .before .before .before .before .before .args .regs .now))) _ (c .before .before .before .before .before .before .before .before .before .before .before .before .before .args .memory .now) _ (c .before .before .before .before .before .before .before .before .before .before .before .before .before .args .pages .now) ports _ _ (refl) refl), rw (c .deny .ensures) (unsettled-lasting _ _ _))
 
 pub proceed-spec : {M : Type 1} → statement M
 proceed-spec =

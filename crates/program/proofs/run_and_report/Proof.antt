@@ -1,4 +1,4 @@
--- Written by tools/prove.py from answers/program.py: answer 6c5c0fb2f77f, proof a8ba90223fc0.
+-- Written by tools/prove.py from answers/program.py: answer 6c5c0fb2f77f, proof 31b27c902c67.
 -- `program::run_and_report` meets its contract. Assumes nothing.
 use Rattle.program.proofs.PrintedLaws.{holds-became}
 use Rattle.program.proofs.run_and_report.Statement.{statement}
@@ -19,5 +19,5 @@ returns-2 c = (rw (← c .before .before .before .before .before .before .before
 pub run-and-report-spec : {M : Type 1} → statement M
 run-and-report-spec =
     tie.close
-    (tie.spec (λ c κs. search needs) (λ c κs. search needs) (λ c. search needs) (λ c κs. search needs) (λ c. search needs) (λ c. search needs)
-    (λ c. search needs) returns (λ c κs. search needs) (λ c. search needs) (λ c. search needs) (λ c. search needs) returns-2)
+    (tie.spec (λ c. search needs) (λ c κs. search needs) (λ c κs. search needs) (λ c. search needs) (λ c κs. search needs) (λ c. search needs)
+    (λ c. search needs) (λ c. search needs) returns (λ c κs. search needs) (λ c. search needs) (λ c. search needs) (λ c. search needs) returns-2)

@@ -1,24 +1,22 @@
--- Written by tools/prove.py from answers/run_batch.py: answer bb0f4a5245a7, proof c30057a86d4f.
+-- Written by tools/prove.py from answers/run_batch.py: answer c2b792bcf785, proof af02aa77794f.
 -- `run_batch::finish` meets its contract. Assumes nothing.
-use Rattle.machine.specs.Step.{ticked}
+use Rattle.clock.specs.Deferred.{tickedBy}
 use Rattle.run_batch.proofs.finish.Statement.{statement}
 use Rattle.run_batch.proofs.finish.Tie as tie
 use borrow.Author.Needs.{needs}
 use mathlib.Core.Path.{refl}
-use native.Mathlib.Omega.{arith}
 
-sub-tick-by : tie.Need-sub-tick-by
-sub-tick-by c = omega (arith, c .pre .1, c .pre .2)
+expire-requires : tie.Need-expire-requires
+expire-requires c κs = c .pre .1
 
 tick-by-requires : tie.Need-tick-by-requires
-tick-by-requires c κs = c .pre .0
+tick-by-requires c κs = c .before .before .pre .1
 
 returns : tie.Need-returns
-unfolding ticked
-returns c = (refl, λ s. rw (← c .before .before .before .before .before .tick-by .ensures, ← c .before .before .before .timer-command .ensures s (c .before .before .before .before .before .before .args .core), c .before .pend .ensures, c .before .before .expire .ensures, c .elapse .ensures) refl)
+unfolding tickedBy
+returns c = (refl, λ s regs. rw (← c .tick-by .ensures, c .before .pend .ensures, c .before .before .expire .ensures) refl)
 
 pub finish-spec : {M : Type 1} → statement M
 finish-spec =
     tie.close
-    (tie.spec sub-tick-by tick-by-requires (λ c κs. search needs) (λ c κs. search needs) (λ c κs. search needs) (λ c κs. search needs)
-    (λ c. search needs) returns)
+    (tie.spec expire-requires (λ c κs. search needs) tick-by-requires (λ c. search needs) returns)

@@ -1,6 +1,6 @@
 //! A machine for the tests, and images.
 
-use twin1750::{load_words, run_words, Refusal, STATE_WORDS};
+use twin1750::{load_words, run_words, Refusal, HUNDRED_EACH, STATE_WORDS};
 
 /// A machine with a packed state; every word holds something, so that a change is seen.
 #[derive(Clone, Debug, PartialEq)]
@@ -32,8 +32,15 @@ impl Machine {
         load_words(image, &mut self.words, &mut self.memory, &mut self.pages, &mut self.ports)
     }
 
+    /// Runs with steps of 100 tenths.
     pub fn run(&mut self, budget: u32) -> Result<(), Refusal> {
-        run_words(budget, &mut self.words, &mut self.memory, &mut self.pages, &mut self.ports)
+        self.run_for(budget, &HUNDRED_EACH)
+    }
+
+    /// Runs with any durations.
+    pub fn run_for(&mut self, budget: u32, durations: &[u16]) -> Result<(), Refusal> {
+        let Machine { words, memory, pages, ports } = self;
+        run_words(budget, durations, words, memory, pages, ports)
     }
 
     /// The packed state as an array.

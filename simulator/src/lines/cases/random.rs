@@ -1,28 +1,13 @@
 //! Words as they come, and their lines with one byte changed.
 
 use super::Requests;
+use crate::generator::Numbers;
 use crate::lines::write::print;
 
 /// Bytes that a changed line gets.
 const BYTES: &[u8] = b"0123456789ABCDEFGLMNRSX ,,--Rar+\t";
 /// How many words there are.
 const COUNT: usize = 600;
-
-/// A generator that always gives the same numbers.
-struct Numbers(u64);
-
-impl Numbers {
-    /// A number below a limit.
-    fn below(&mut self, limit: usize) -> usize {
-        self.0 = self.0.wrapping_mul(6_364_136_223_846_793_005).wrapping_add(1);
-        (self.0 >> 33) as usize % limit
-    }
-
-    /// A word.
-    fn word(&mut self) -> u16 {
-        self.below(0x1_0000) as u16
-    }
-}
 
 /// A line with one byte dropped, doubled, put in or changed.
 fn changed(line: &str, numbers: &mut Numbers) -> Vec<u8> {

@@ -1,4 +1,4 @@
--- Written by tools/prove.py from answers/test_case.py: answer e8ec8421e910, proof 8ebc91d67b5c.
+-- Written by tools/prove.py from answers/test_case.py: answer ccfcec5a504b, proof 38fda6af3015.
 -- `test_case::output::put_state` meets its contract. Assumes nothing.
 use Rattle.test_case.proofs.TextLaws.{added, case-short, report-short, time-short}
 use Rattle.test_case.proofs.output.put_state.Statement.{statement}
@@ -17,12 +17,15 @@ add-requires-2 c κs = omega (arith, case-short (c .before .before .before .befo
 add-requires-3 : tie.Need-add-requires-3
 add-requires-3 c κs = omega (arith, case-short (c .before .before .before .before .before .before .before .before .before .before .before .before .before .before .args .number) (c .before .before .before .before .before .before .before .before .before .before .before .before .before .before .args .answer), report-short (c .before .before .before .before .before .before .before .before .before .before .before .before .before .before .args .steps) (c .before .before .before .before .before .before .before .before .before .before .before .before .before .before .args .state), time-short (c .before .before .before .before .before .before .before .before .before .before .before .before .before .before .args .state))
 
+put-remainders-requires : tie.Need-put-remainders-requires
+put-remainders-requires c κs = omega (arith, case-short (c .before .before .before .before .before .before .before .before .before .before .before .before .before .before .before .before .args .number) (c .before .before .before .before .before .before .before .before .before .before .before .before .before .before .before .before .args .answer), report-short (c .before .before .before .before .before .before .before .before .before .before .before .before .before .before .before .before .args .steps) (c .before .before .before .before .before .before .before .before .before .before .before .before .before .before .before .before .args .state), time-short (c .before .before .before .before .before .before .before .before .before .before .before .before .before .before .before .before .args .state))
+
 returns : tie.Need-returns
 unfolding stateLines
-returns c = (then (added (c .before .before .before .before .before .before .before .before .before .before .before .before .before .case-line .ensures) (c .before .before .before .before .before .before .before .before .before .before .add .ensures .0)) (then (added (c .before .before .before .before .before .before .before .before .report .ensures) (c .before .before .before .before .before .add2 .ensures .0)) (added (c .before .before .before .time-line .ensures) (c .add3 .ensures .0))), omega (arith, case-short (c .before .before .before .before .before .before .before .before .before .before .before .before .before .before .before .args .number) (c .before .before .before .before .before .before .before .before .before .before .before .before .before .before .before .args .answer), report-short (c .before .before .before .before .before .before .before .before .before .before .before .before .before .before .before .args .steps) (c .before .before .before .before .before .before .before .before .before .before .before .before .before .before .before .args .state), time-short (c .before .before .before .before .before .before .before .before .before .before .before .before .before .before .before .args .state)))
+returns c = (then (added (c .before .before .before .before .before .before .before .before .before .before .before .before .before .before .before .case-line .ensures) (c .before .before .before .before .before .before .before .before .before .before .before .before .add .ensures .0)) (then (added (c .before .before .before .before .before .before .before .before .before .before .report .ensures) (c .before .before .before .before .before .before .before .add2 .ensures .0)) (then (added (c .before .before .before .before .before .time-line .ensures) (c .before .before .add3 .ensures .0)) (c .put-remainders .ensures .0))), omega (arith, case-short (c .before .before .before .before .before .before .before .before .before .before .before .before .before .before .before .before .before .args .number) (c .before .before .before .before .before .before .before .before .before .before .before .before .before .before .before .before .before .args .answer), report-short (c .before .before .before .before .before .before .before .before .before .before .before .before .before .before .before .before .before .args .steps) (c .before .before .before .before .before .before .before .before .before .before .before .before .before .before .before .before .before .args .state), time-short (c .before .before .before .before .before .before .before .before .before .before .before .before .before .before .before .before .before .args .state), c .put-remainders .ensures .1))
 
 pub put-state-spec : {M : Type 1} → statement M
 put-state-spec =
     tie.close
     (tie.spec (λ c κs. search needs) (λ c. search needs) (λ c. search needs) add-requires (λ c κs. search needs) (λ c. search needs)
-    (λ c. search needs) add-requires-2 (λ c κs. search needs) (λ c. search needs) (λ c. search needs) add-requires-3 returns)
+    (λ c. search needs) add-requires-2 (λ c κs. search needs) (λ c. search needs) (λ c. search needs) add-requires-3 put-remainders-requires returns)

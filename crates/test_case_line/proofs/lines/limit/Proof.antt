@@ -1,4 +1,4 @@
--- Written by tools/prove.py from answers/test_case_line.py: answer 03603878a901, proof 80a719929ba7.
+-- Written by tools/prove.py from answers/test_case_line.py: answer ecd4d1234bee, proof 2729b5b59e6f.
 -- `test_case_line::lines::limit` meets its contract. Assumes nothing.
 use Rattle.test_case_line.proofs.lines.limit.Statement.{statement}
 use Rattle.test_case_line.proofs.lines.limit.Tie as tie
@@ -21,7 +21,11 @@ returns-3 c = (rw (eq-eqb _ _ (c .before .before .if1 .left), ne-eqb _ _ (c .bef
 
 returns-4 : tie.Need-returns-4
 unfolding limitOf
-returns-4 c = (rw (eq-eqb _ _ (c .before .before .if1 .left), ne-eqb _ _ (c .before .if2 .left), ne-eqb _ _ (c .if3 .left)) refl, omega arith)
+returns-4 c = (rw (eq-eqb _ _ (c .before .before .before .if1 .left), ne-eqb _ _ (c .before .before .if2 .left), ne-eqb _ _ (c .before .if3 .left), eq-eqb _ _ (c .if4 .taken)) refl, omega arith)
+
+returns-5 : tie.Need-returns-5
+unfolding limitOf
+returns-5 c = (rw (eq-eqb _ _ (c .before .before .before .if1 .left), ne-eqb _ _ (c .before .before .if2 .left), ne-eqb _ _ (c .before .if3 .left), ne-eqb _ _ (c .if4 .left)) refl, omega arith)
 
 pub limit-spec : {M : Type 1} → statement M
-limit-spec = tie.close (tie.spec returns returns-2 returns-3 returns-4)
+limit-spec = tie.close (tie.spec returns returns-2 returns-3 returns-4 returns-5)

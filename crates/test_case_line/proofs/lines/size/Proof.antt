@@ -1,4 +1,4 @@
--- Written by tools/prove.py from answers/test_case_line.py: answer 40161fafea8b, proof 48a553d10b7a.
+-- Written by tools/prove.py from answers/test_case_line.py: answer c7359df3bfb3, proof c8fae05edd4d.
 -- `test_case_line::lines::size` meets its contract. Assumes nothing.
 use Rattle.choice.proofs.SelectLaws.{otherwise}
 use Rattle.test_case_line.proofs.lines.size.Statement.{statement}
@@ -34,7 +34,11 @@ returns-6 c = (rw (c .match .keys6), omega arith)
 
 returns-7 : tie.Need-returns-7
 unfolding sizeOf
-returns-7 c = (sym (otherwise (c .before .args .kind) ((83, _) ∷ (77, _) ∷ (80, _) ∷ (79, _) ∷ (76, _) ∷ (71, _) ∷ []) _ (c .match .rest)), omega arith)
+returns-7 c = (rw (c .match .keys7), omega arith)
+
+returns-8 : tie.Need-returns-8
+unfolding sizeOf
+returns-8 c = (sym (otherwise (c .before .args .kind) ((83, _) ∷ (77, _) ∷ (80, _) ∷ (79, _) ∷ (68, _) ∷ (76, _) ∷ (71, _) ∷ []) _ (c .match .rest)), omega arith)
 
 pub size-spec : {M : Type 1} → statement M
-size-spec = tie.close (tie.spec returns returns-2 returns-3 returns-4 returns-5 returns-6 returns-7)
+size-spec = tie.close (tie.spec returns returns-2 returns-3 returns-4 returns-5 returns-6 returns-7 returns-8)

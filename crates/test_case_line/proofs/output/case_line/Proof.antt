@@ -1,4 +1,4 @@
--- Written by tools/prove.py from answers/test_case_line.py: answer b82db21bfea4, proof 167b343292a2.
+-- Written by tools/prove.py from answers/test_case_line.py: answer 0319acffd983, proof 167b343292a2.
 -- `test_case_line::output::case_line` meets its contract. Assumes nothing.
 use Rattle.test_case_line.proofs.output.case_line.Statement.{statement}
 use Rattle.test_case_line.proofs.output.case_line.Tie as tie

@@ -1,4 +1,4 @@
--- Written by tools/prove.py from answers/test_case_line.py: answer 92bc7078a6a8, proof 4464fc654dc1.
+-- Written by tools/prove.py from answers/test_case_line.py: answer 59cfb5098557, proof 4464fc654dc1.
 -- `test_case_line::output::entry_line` meets its contract. Assumes nothing.
 use Rattle.test_case_line.proofs.output.entry_line.Statement.{statement}
 use Rattle.test_case_line.proofs.output.entry_line.Tie as tie

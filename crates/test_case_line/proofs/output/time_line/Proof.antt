@@ -1,4 +1,4 @@
--- Written by tools/prove.py from answers/test_case_line.py: answer ec4441338864, proof 8efdc992985c.
+-- Written by tools/prove.py from answers/test_case_line.py: answer 151ee24bfee4, proof 8efdc992985c.
 -- `test_case_line::output::time_line` meets its contract. Assumes nothing.
 use Rattle.test_case_line.proofs.output.time_line.Statement.{statement}
 use Rattle.test_case_line.proofs.output.time_line.Tie as tie

@@ -1,4 +1,4 @@
--- Written by tools/prove.py from answers/test_case_line.py: answer 85373eb0212c, proof eb6a8841010c.
+-- Written by tools/prove.py from answers/test_case_line.py: answer cc288c611980, proof 4e4c52f3b744.
 -- `test_case_line::set::place` meets its contract. Assumes nothing.
 use Rattle.choice.proofs.SelectLaws.{otherwise}
 use Rattle.test_case_line.proofs.set.place.Statement.{statement}
@@ -17,7 +17,15 @@ returns-2 c = rw (c .match .keys2)
 
 returns-3 : tie.Need-returns-3
 unfolding placeOf
-returns-3 c = sym (otherwise (c .before .args .number) ((24, _) ∷ (25, _) ∷ []) _ (c .match .rest))
+returns-3 c = rw (c .match .keys3)
+
+returns-4 : tie.Need-returns-4
+unfolding placeOf
+returns-4 c = rw (c .match .keys4)
+
+returns-5 : tie.Need-returns-5
+unfolding placeOf
+returns-5 c = sym (otherwise (c .before .args .number) ((24, _) ∷ (25, _) ∷ (26, _) ∷ (27, _) ∷ []) _ (c .match .rest))
 
 pub place-spec : {M : Type 1} → statement M
-place-spec = tie.close (tie.spec returns returns-2 returns-3)
+place-spec = tie.close (tie.spec returns returns-2 returns-3 returns-4 returns-5)
