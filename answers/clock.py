@@ -7,7 +7,7 @@ LEFT = 'omega (arith, mul-div-le (@args .end - @args .t) (@args .longest))'
 
 A = {
     'time/release': by(STEP + ' released', STATE + ' withHold', returns='refl'),
-    'time/fault': by(STEP + ' faulted', STATE + ' withIc withPi withFt', returns='refl'),
+    'time/fault': by(STEP + ' faulted', STATE + ' withIc withPi withFaults', returns='rw (← @after-fault .ensures) refl'),
     'time/pend': by(STATE + ' withPi', returns='refl'),
     'time/rise_count': by(STEP + ' rises', use=[OMEGA, TIMES, 'native.Mathlib.Nat.{div-le-self}'], returns='(refl, omega (arith, div-le-self (@args .remainder + @args .tenths) (@args .unit), @Start .pre .1))'),
     'time/remain': by(STEP + ' remaining', use=[OMEGA, TIMES, 'native.Mathlib.Nat.{mod-lt}'], returns='rw (@if1 .taken) refl', returns_2='rw (@if1 .left) refl',

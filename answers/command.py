@@ -6,8 +6,8 @@ LAWS = 'Rattle.command.proofs.CommandLaws.{unlisted, past-outputs, same
 
 # the commands
 OUTPUTS = '0x2000 0x2001 0x2002 0x2003 0x2004 0x2005 0x200E'
-INPUTS = '0xA000 0xA004 0xA00E 0xA00F'
-CALLS = ['set-mask', 'set-pending', 'set-enabled', 'set-enabled2', 'reset-pending', 'hold-pending', 'set-status']
+INPUTS = '0xA000 0xA004 0xA00D 0xA00E 0xA00F'
+CALLS = ['set-mask', 'clear-pending', 'set-enabled', 'set-enabled2', 'reset-pending', 'hold-pending', 'set-status']
 OPENED = COMMANDS + ' coreCommand becomes'
 
 
@@ -56,9 +56,9 @@ A = {
         returns_5='(λ s regs n. rw (%s, le-leb (@args .command) 0x7FFF (omega (arith, @Start .pre .2)), @Start .pre .3) (@core-output2 .ensures s regs _ _ n), same (@core-output2 .result) _, same (@core-output2 .result) _)' % ranges(4, False)),
     'xio/take': by(returns='rw (← @field-a .ensures .0) (@put .ensures)'),
     'xio/core_input': by(COMMANDS + ' coreCommand becomes withRa faultsRead', OUTCOME + ' governed Kept', use=[LISTS, OTHERWISE, COMPARISONS, NUMBERS, LAWS, STATE + '{joined, withProcessor}'],
-        **{returns(i): '(λ s g o ra. rw (@match .keys%d, ← @take%s .ensures) refl, tt)' % (i, i if i > 1 else '') for i in (1, 2, 3)},
-        returns_4='(λ s g o ra. rw (@match .keys4, ← @reset-bit .ensures, ← @take4 .ensures, ← @set-pending .ensures) refl, tt)',
-        returns_5='(λ s g o ra. sym (unlisted (λ k. ltb k 0x8000) (@args .n .address) %s _ refl (le-ltb _ _ (@Start .pre)) ∙ %s), refl)' % (rules(OUTPUTS), rest('(@args .n .address)', INPUTS))),
+        **{returns(i): '(λ s g o ra. rw (@match .keys%d, ← @take%s .ensures) refl, tt)' % (i, i if i > 1 else '') for i in (1, 2, 3, 4)},
+        returns_5='(λ s g o ra. rw (@match .keys5, ← @reset-bit .ensures, ← @take5 .ensures, ← @set-pending .ensures) refl, tt)',
+        returns_6='(λ s g o ra. sym (unlisted (λ k. ltb k 0x8000) (@args .n .address) %s _ refl (le-ltb _ _ (@Start .pre)) ∙ %s), refl)' % (rules(OUTPUTS), rest('(@args .n .address)', INPUTS))),
     'xio/input': by(COMMANDS + ' commanded stateCommand becomes withRa', OUTCOME + ' governed Kept', use=[COMPARISONS, LAWS],
         core_input_requires='@Start .pre .2', core_input_requires_2='@Start .pre .2',
         returns='(%s, tt)' % input_of(ranges(0) + ', ← @take .ensures', ' refl'),

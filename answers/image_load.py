@@ -18,7 +18,7 @@ A = importing({
     'write_registers': {
         'write-words-requires': 'let l : 16 ≡ length (@args .s .regs) = slice-aggregate-write-words c in (omega (arith, @Start .pre .0), @Start .pre .1)',
         'returns': 'rw (@write-words .ensures) refl'},
-    'write_control': {'unf': {'*': 'withIc withSw withMk withPi withFt controlOf withControl'}, 'returns': 'rw (← @write-words .ensures) refl'},
+    'write_control': {'unf': {'*': 'withIc withSw withMk withPi withFt withFaults controlOf withControl'}, 'returns': 'rw (← @write-words .ensures) refl'},
     'write_body': {
         'write-words-requires': '(within-memory _ _ (@Start .pre .0) (@if1 .taken), @Start .pre .2)',
         'write-words-requires-2': '(rw (@Start .pre .1) (within-pages _ _ (@Start .pre .0) (@if1 .left) (@if2 .taken)), @Start .pre .2)',

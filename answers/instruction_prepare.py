@@ -27,7 +27,7 @@ A = {
     'second_word': by(SPANS + ' gotAt', use=['Prim.Native.Nat.{_+_}', LENGTH, TESTS, LIMITS, OMEGA, LOCATED, NEXT],
         returns='rw (eq-eqb _ _ (@if1 .taken), ← @advance .ensures) (@read-word .ensures)',
         add_next='omega (arith, located-inside _ _ _ _ _ _ _ _ (sym (@Start .pre .2)) refl)',
-        returns_2='rw (%s, lt-ltb %s) refl' % (FOLLOWING, NEXT_BOUND), returns_3='rw (%s, le-ltb %s) refl' % (FOLLOWING, NEXT_BOUND),
+        returns_2='rw (%s, lt-ltb %s) refl' % (FOLLOWING, NEXT_BOUND), returns_3='rw (%s, le-ltb %s, ← @refuse .ensures) refl' % (FOLLOWING, NEXT_BOUND),
         returns_4='rw (ne-eqb _ _ (@if1 .left))'),
     'extend': by(STAGES + ' extended', STATE + ' advanced', use=[LAWS], second_word_requires='(@Start .pre .0, %s, @Start .pre .2)' % SMALL,
         returns='rw (%s) (@derive .ensures)' % (SECOND % 'second' + BACK), returns_2='rw (%s, ← @advance .ensures) refl' % (SECOND % 'second2')),

@@ -22,7 +22,7 @@ A = {
         transfer_requires='(@Start .pre .0, @Start .pre .1, @Start .pre .2)',
         returns=governed('governed-done', '_ (@governed .given .1)'),
         returns_2=governed('governed-refused', '_ _ (@governed2 .given .1) (@transfer .ensures .1, @transfer .ensures .2, @transfer .ensures .3) (rw (← @advance .ensures) (@fault .ensures))')),
-    'call': by(STEP + ' perform', ENTRIES + ' arrived', STATE + ' withIc withSw withMk withPi withFt withEnabled advanced',
+    'call': by(STEP + ' perform', ENTRIES + ' arrived', STATE + ' withIc withSw withMk withPi withFaults withEnabled advanced',
         use=['Rattle.interrupt_entry.proofs.EntryLaws.{entered-by}', STATE + '{joined, withProcessor}'],
         returns='λ s regs ports. rw (← @call-vector .ensures, ← @advance .ensures) (entered-by %s %s _ (@args .memory .now) _ (@args .pages .now) ports 5 _ _ %s (@arrive .ensures))'
             % (BEX, SHIFTED, linked('call-vector', SHIFTED))),

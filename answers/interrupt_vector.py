@@ -14,7 +14,7 @@ A = {
         returns='λ s h e m p. sym (chosen-held s (h ∙ @if1 .taken))',
         returns_2='λ s h e m p. rw (← p, @take .ensures s e m) (sym (chosen-leading s (rw p (@Start .fits .pi .fits)) (h ∙ @if1 .left)))',
         cast_result='omega (arith, leading-le 16 (bitAnd (@args .pi) (@take .result)))'),
-    'pointers/fault_of': by(ENTRIES + ' faultOf', returns='cc', returns_2='cc'),
+    'pointers/gather': by(ENTRIES + ' readAfter', returns='cc', returns_2='cc'),
     'pointers/read_zero': by(ENTRIES + ' gotZero', returns='@read-word .ensures'),
     'pointers/vector_each': by(ENTRIES + ' vectorAt', SPANS + ' wrapped'),
     'pointers/vector_found': by(use=[OMEGA, 'Prim.Native.Nat.{_+_, _*_}', LAWS + '{all-found, not-found, inside-at, room-before, inside-before, vector-together}'],

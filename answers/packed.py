@@ -9,7 +9,7 @@ SIXTEEN = 'omega (arith, length-take 16 (@args .words .now), @Start .pre)'
 # the parts of the unpacked state: words as they stand but for the registers, the marks and the counter
 COMPUTED = {'regs': '@copy .ensures ∙ copied-whole _ _ (%s)' % SIXTEEN, 'enabled': '@marked .ensures', 'hold': '@marked2 .ensures', 'taon': '@marked3 .ensures', 'tbon': '@marked4 .ensures',
     'count': 'rw (@wide .ensures .0, @wide2 .ensures .0) refl'}
-PARTS = ('regs', 'ic', 'sw', 'mk', 'pi', 'ft', 'enabled', 'hold', 'taon', 'tbon', 'ta', 'tb', 'rema', 'remb', 'count')
+PARTS = ('regs', 'ic', 'sw', 'mk', 'pi', 'ft', 'mfs', 'enabled', 'hold', 'taon', 'tbon', 'ta', 'tb', 'rema', 'remb', 'count')
 UNPACKED = 'from-parts _ _ (record { %s })' % '; '.join('%s-is = %s' % (part, COMPUTED.get(part, 'refl')) for part in PARTS)
 
 A = {

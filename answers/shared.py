@@ -221,7 +221,7 @@ MODULES = {
     'lib.ListN': 'length length-set',
     'lib.Seq': 'sets',
     'borrow.Author.Tests': 'eq-eqb ne-eqb lt-ltb le-ltb le-leb lt-leb not-true not-false',
-    'Rattle.machine.specs.State': 'withRegs withIc withSw withMk withPi withFt',
+    'Rattle.machine.specs.State': 'withRegs withIc withSw withMk withPi withFaults withFt',
     'Rattle.machine.specs.Machine': 'machine',
     'Rattle.machine.specs.Runs': 'wholePages',
     'Rattle.machine.proofs.MachineLaws': 'became-machine machine-became',

@@ -8,6 +8,7 @@ def line(call, add='add'):
 NUMBERED = 'omega (arith, numbered-short (@args .message .now) (@args .number))'
 CASE, REPORT, TIME = 'case-short (@args .number) (@args .answer)', 'report-short (@args .steps) (@args .state)', 'time-short (@args .state)'
 REMAINDERS = 'omega (arith, remainder-short (@args .state))'
+MFS = 'omega (arith, mfs-short (@args .state))'
 ENTRY = 'omega (arith, entry-long (@args .kind) (@args .number) (@args .word))'
 
 
@@ -28,10 +29,10 @@ A = importing({
     'lib.ListN': 'length length-take',
     'Rattle.text.specs.Texts': 'Wrote hex',
     'Rattle.text.proofs.WroteLaws': 'wrote-none then whole',
-    'Rattle.test_case_line.specs.Texts': 'remainderLine entryLine',
+    'Rattle.test_case_line.specs.Texts': 'remainderLine mfsLine entryLine',
     'Rattle.test_case.specs.Case': 'lending withDuration changed entered changesTo stateLines',
     'Rattle.test_case.specs.Session': 'begun withEntry onRun onEntry onLine nextLine onEnd withByte onByte onLast saidIf closing sessionOf',
-    'Rattle.test_case.proofs.TextLaws': 'added numbered-short case-short report-short time-short remainder-short entry-long changes-same changes-more changes-all',
+    'Rattle.test_case.proofs.TextLaws': 'added numbered-short case-short report-short time-short remainder-short mfs-short entry-long changes-same changes-more changes-all',
     'Rattle.test_case.proofs.CaseLaws': 'one-more fresh-is answer-is ran-is text-is',
 }, {
     'output/put_message': {'add-requires': NUMBERED, 'returns': '(%s, %s)' % (line('numbered-line'), NUMBERED)},
@@ -39,8 +40,10 @@ A = importing({
     'output/put_state': {'unf': {'*': 'stateLines'},
         'add-requires': 'omega (arith, %s)' % CASE, 'add-requires-2': 'omega (arith, %s, %s)' % (CASE, REPORT), 'add-requires-3': 'omega (arith, %s, %s, %s)' % (CASE, REPORT, TIME),
         'put-remainders-requires': 'omega (arith, %s, %s, %s)' % (CASE, REPORT, TIME),
-        'returns': '(then (%s) (then (%s) (then (%s) (@put-remainders .ensures .0))), omega (arith, %s, %s, %s, @put-remainders .ensures .1))' % (line('case-line'), line('report', 'add2'), line('time-line', 'add3'), CASE, REPORT, TIME)},
+        'put-mfs-requires': 'omega (arith, %s, %s, %s, @put-remainders .ensures .1)' % (CASE, REPORT, TIME),
+        'returns': '(then (%s) (then (%s) (then (%s) (then (@put-remainders .ensures .0) (@put-mfs .ensures .0)))), omega (arith, %s, %s, %s, @put-remainders .ensures .1, @put-mfs .ensures .1))' % (line('case-line'), line('report', 'add2'), line('time-line', 'add3'), CASE, REPORT, TIME)},
     'output/put_remainders': {'add-requires': REMAINDERS, 'returns': '(rw (@if1 .taken) (%s), %s)' % (line('remainder-line'), REMAINDERS), 'returns-2': '(rw (@if1 .left) (wrote-none _ _), omega arith)'},
+    'output/put_mfs': {'add-requires': MFS, 'returns': '(rw (eq-eqb _ 0 (@if1 .taken)) (wrote-none _ _), omega arith)', 'returns-2': '(rw (ne-eqb _ 0 (@if1 .left)) (%s), %s)' % (line('mfs-line'), MFS)},
     'output/put_entry': {'add-requires': ENTRY, 'returns': '(%s, %s)' % (line('entry-line'), ENTRY)},
     'output/put_changes': {'default': 'omega arith',
         'Inv-loop': '(n ≤ length after) × (Wrote out₀ at (changesTo kind before after n) out to) × (to ≤ at + 12 * n)', 'μ-loop': 'length after - n',

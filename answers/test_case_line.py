@@ -24,10 +24,11 @@ A = {
     'lines/read': {'use': [EQUATIONS, OMEGA, COMPARISONS, LINES + '{entryOf, lineOf}'], 'unf': {'*': 'entryOf lineOf'},
         **tested('==≠≠≠≤<', with_words)},
     'set/put': {'use': [EQUATIONS, 'lib.Seq.{set-out}'], 'returns': 'refl', 'returns-2': 'sym (set-out _ _ _ (@if1 .left))'},
-    'set/place': {'use': [EQUATIONS, LISTS, OTHERWISE, PLACES + '{placeOf}'], 'unf': {'*': 'placeOf'}, 'arms': '@arm', 'returns-5': 'sym (%s)' % rest('(@args .number)', '24 25 26 27')},
+    'set/place': {'use': [EQUATIONS, LISTS, OTHERWISE, PLACES + '{placeOf}'], 'unf': {'*': 'placeOf'}, 'arms': '@arm', 'returns-6': 'sym (%s)' % rest('(@args .number)', '24 25 26 27 28')},
     'set/state': {'use': [EQUATIONS, PLACES + '{withWord}'], 'unf': {'*': 'withWord'}, 'returns': 'rw (@unpack .ensures, @put .ensures, @place .ensures, @pack .ensures) refl'},
     'output/case_line': line('caseLine', 'put-bytes', 'put-decimal', 'put-bytes2', 'put-decimal2', 'put'),
     'output/time_line': line('timeLine', 'put-bytes', 'put-hex', 'put-bytes2', 'put-hex2', 'put-bytes3', 'put-hex3', 'put-bytes4', 'put-decimal', 'put', back='rw (← @marks .ensures) '),
     'output/remainder_line': line('remainderLine bytesOf', 'put-bytes', 'put-decimal', 'put', 'put-decimal2', 'put2'),
+    'output/mfs_line': line('mfsLine bytesOf', 'put-bytes', 'put-hex', 'put'),
     'output/entry_line': line('entryLine', 'put', 'put2', 'put-hex', 'put3', 'put-hex2', 'put4'),
 }

@@ -1,13 +1,14 @@
 /* An example of the C interface: loads examples/loop.image, runs 1,000 steps and prints the registers as the program `twin` does, and
- * the timers; runs on with other durations; tries lengths that are refused; then prints instructions as mnemonic lines, reads them
+ * the timers; runs on with other durations; tries lengths that are refused; runs a store that is refused, and tells which page
+ * register refused it; then prints instructions as mnemonic lines, reads them
  * back, and tries lines that are refused. Run it in the root of the repository. It ends with status 1 if anything is unexpected. */
 #include <stdio.h>
 #include <string.h>
 
 #include "twin1750.h"
 
-#if TWIN1750_VERSION != 4
-#error "this example is written for version 4 of the interface"
+#if TWIN1750_VERSION != 5
+#error "this example is written for version 5 of the interface"
 #endif
 
 enum { MEMORY = 16384, STEPS = 1000, BGT = 0x79 };
@@ -185,7 +186,7 @@ static void lines(void)
 static void lengths(void)
 {
     m.state[TWIN1750_MARKS] |= 0x8000;
-    m.state[26] = 0x1750;
+    m.state[27] = 0x1750;
     m.state[TWIN1750_STATE - 1] = 0x1750;
     refused("no packed words", TWIN1750_REFUSED_STATE, 0, MEMORY, TWIN1750_PAGES, TWIN1750_PORTS);
     refused("32 packed words", TWIN1750_REFUSED_STATE, 32, MEMORY, TWIN1750_PAGES, TWIN1750_PORTS);
@@ -205,8 +206,26 @@ static void lengths(void)
     /* a call that is done leaves 0 there */
     expect("run of no steps", run_right(0), TWIN1750_DONE);
     expect("marks", m.state[TWIN1750_MARKS], TWIN1750_A_RUNS + TWIN1750_B_RUNS);
-    expect("word 26", m.state[26], 0);
+    expect("word 27", m.state[27], 0);
     expect("the last word", m.state[TWIN1750_STATE - 1], 0);
+}
+
+/* DST R1,0FFF in the reset machine, which no bytes load: the second word of the store lies in page 1, which may not be written. */
+static void refused_store(void)
+{
+    image_len = 0;
+    expect("load of no bytes", load(TWIN1750_STATE, MEMORY, TWIN1750_PAGES, TWIN1750_PORTS), TWIN1750_DONE);
+    m.memory[0] = 0x9610;
+    m.memory[1] = 0x0FFF;
+    m.pages[256 + 1] = 0x0801;
+    m.state[1] = 0x1750;
+    expect("run", run_right(1), TWIN1750_DONE);
+    expect("ft", m.state[TWIN1750_FT], 0x8000);
+    expect("memory fault status", m.state[TWIN1750_MFS], 0x1000);
+    expect("the first word", m.memory[0x0FFF], 0);
+    printf("ft %04X mfs %04X: refused by the register of page %u, group %u of the %s set\n", (unsigned)m.state[TWIN1750_FT],
+           (unsigned)m.state[TWIN1750_MFS], m.state[TWIN1750_MFS] / 4096u, m.state[TWIN1750_MFS] % 16u,
+           m.state[TWIN1750_MFS] & 16 ? "instruction" : "operand");
 }
 
 int main(void)
@@ -228,6 +247,7 @@ int main(void)
     expect("run", run_right(28), TWIN1750_DONE);
     timers(1010, 36, 101, 36);
     lengths();
+    refused_store();
     lines();
     return surprises == 0 ? 0 : 1;
 }

@@ -35,7 +35,9 @@
  *            bits 0 to 11 are not looked at, and 0 after a call that is done
  *   22, 23   timer A, timer B
  *   24, 25   the remainders of timer A and of timer B, in tenths of a microsecond; any number may be given
- *   26 to 30 kept for parts of a later version
+ *   26       MFS, the memory fault status, which tells the page register that refused the most recent access that set a bit of FT:
+ *            bits 0 to 3 its page, bit 11 set for the instruction set, bits 12 to 15 its group; 0 after a reset. Any word may be given
+ *   27 to 30 kept for parts of a later version
  *   32, 33   the step counter, its high word first
  *
  * Every word that is not named here, or is kept, is not looked at, and is 0 after a call that is done.
@@ -55,7 +57,7 @@ extern "C" {
 #endif
 
 /* The version of this interface. It rises when a word of the layout or a call changes its meaning. */
-#define TWIN1750_VERSION 4
+#define TWIN1750_VERSION 5
 
 /* The numbers of packed words, page registers and ports that a call takes, and of durations that a run takes. */
 enum {
@@ -82,6 +84,7 @@ enum {
     TWIN1750_TIMER_B = 23,
     TWIN1750_REMAINDER_A = 24,
     TWIN1750_REMAINDER_B = 25,
+    TWIN1750_MFS = 26,
     TWIN1750_COUNTER_HIGH = 32,
     TWIN1750_COUNTER_LOW = 33
 };

@@ -28,7 +28,7 @@ ORDER = {
     'float_convert/Convert',
     'Pages': 'page page/Pages page/Spans',
     'Decoding': 'decode/Modes decode/Forms decode/Operands decode/Pages decode/Decode',
-    'The machine': 'machine machine/State machine/Machine machine/Instructions machine/Entries machine/Step machine/Timelines machine/Runs run',
+    'The machine': 'machine machine/State machine/Faults machine/Machine machine/Instructions machine/Entries machine/Step machine/Timelines machine/Runs run',
     'The instruction set': 'isa/Fields isa/Addressing isa/Accesses isa/Effects isa/Words isa/Integers isa/Floats isa/Blocks isa/Execute isa/Commands isa/Mil1750',
     'Two machines compared': 'machine/Isolation run/Calls',
     'The old rule of the timers': 'machine/OldTimers isa/OldTimers',

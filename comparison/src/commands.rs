@@ -1,7 +1,7 @@
 //! The commands of XIO: their names and codes, the first and the last of each.
 
 /// Every command that the machine has.
-pub const COMMANDS: [(&str, u16, u16); 25] = [
+pub const COMMANDS: [(&str, u16, u16); 26] = [
     ("PO", 0x0000, 0x03FF),
     ("PI", 0x8000, 0x83FF),
     ("WIPR", 0x5100, 0x51FF),
@@ -17,6 +17,7 @@ pub const COMMANDS: [(&str, u16, u16); 25] = [
     ("WSW", 0x200E, 0x200E),
     ("RMK", 0xA000, 0xA000),
     ("RPIR", 0xA004, 0xA004),
+    ("RMFS", 0xA00D, 0xA00D),
     ("RSW", 0xA00E, 0xA00E),
     ("RCFR", 0xA00F, 0xA00F),
     ("TAS", 0x4008, 0x4008),
@@ -30,9 +31,9 @@ pub const COMMANDS: [(&str, u16, u16); 25] = [
 ];
 
 /// Codes of other machines' commands and codes next to those above: all of them illegal.
-pub const ILLEGAL: [u16; 16] = [
-    0x0400, 0x7FFF, 0x8400, 0x2006, 0x200D, 0x200F, 0x4000, 0x400B, 0x50FF, 0x5300, 0xA001, 0xA010,
-    0xC00B, 0xD0FF, 0xD300, 0xFFFF,
+pub const ILLEGAL: [u16; 17] = [
+    0x0400, 0x7FFF, 0x8400, 0x2006, 0x200D, 0x200F, 0x4000, 0x400B, 0x50FF, 0x5300, 0xA001, 0xA00C,
+    0xA010, 0xC00B, 0xD0FF, 0xD300, 0xFFFF,
 ];
 
 /// The place of a command in the table, nothing for an illegal one.

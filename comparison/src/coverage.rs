@@ -1,6 +1,8 @@
-//! Counts what the random programs reach: forms, commands, interrupts, faults, moments of the timers, answers.
+//! Counts what the random programs reach: forms, commands, interrupts, faults, moments of the timers and of the memory fault
+//! status, answers.
 
 use crate::commands::{command_of, COMMANDS};
+use crate::fault_moments::FaultMoments;
 use crate::moments::{Moment, MOMENTS};
 use crate::shapes::{form, form_name, forms, shape_of_form, FORMS};
 use crate::simulated::Watcher;
@@ -26,6 +28,7 @@ pub struct Coverage {
     entries: [u64; 16],
     faults: [u64; FAULTS.len()],
     moments: [u64; MOMENTS.len()],
+    fault_moments: FaultMoments,
     watched: u64,
     refused: u64,
     illegal: u64,
@@ -47,6 +50,7 @@ impl Default for Coverage {
             entries: [0; 16],
             faults: [0; FAULTS.len()],
             moments: [0; MOMENTS.len()],
+            fault_moments: FaultMoments::default(),
             watched: 0,
             refused: 0,
             illegal: 0,
@@ -69,6 +73,7 @@ impl Watcher for Coverage {
         for (count, (_, is)) in self.moments.iter_mut().zip(&MOMENTS) {
             *count += u64::from(is(&moment));
         }
+        self.fault_moments.count(seen, after);
         match seen.next {
             Next::Entry(number) => self.entries[number] += 1,
             Next::Instruction { first, command } => {
@@ -135,6 +140,9 @@ impl Coverage {
         for ((name, _), count) in MOMENTS.iter().zip(self.moments) {
             ask(count > 0, name.to_string());
         }
+        for (name, count) in self.fault_moments.counts() {
+            ask(count > 0, name);
+        }
         for (what, given, answers) in self.answers() {
             for answer in answers {
                 ask(given.contains_key(answer), format!("answer {answer} of {what}"));
@@ -174,6 +182,7 @@ impl Coverage {
             ("XIO commands done", commands),
             ("interrupts entered", numbered(&self.entries)),
             ("moments of the timers", moments),
+            ("moments of the memory fault status", self.fault_moments.counts()),
         ];
         let mut text = self.shares();
         for (what, counts) in rows {

@@ -2,14 +2,17 @@
 
 #![forbid(unsafe_code)]
 
+mod accesses;
 mod case;
 mod code;
 pub mod commands;
 mod compare;
 mod coverage;
 mod durations;
+mod fault_moments;
 mod images;
 mod lines;
+mod lookup;
 mod moments;
 mod numbers;
 pub mod packed;
@@ -32,6 +35,7 @@ pub const CASES: u64 = 20_000;
 pub use compare::{compare, Batch};
 pub use coverage::Coverage;
 pub use lines::{Buffers, LegalLines, LineBatch, LineDifference, LineSubject, Request, LINES};
+pub use lookup::{Access, Part, Refused};
 pub use programs::programs;
 pub use simulated::{Simulated, Stepped, Watcher};
 pub use subject::{Call, Lent, Subject};

@@ -1,12 +1,15 @@
 //! One instruction planted where IC stands, with operands that it is likely to reach.
 
 use crate::code::instruction;
+use crate::lookup::place;
 use crate::numbers::Numbers;
-use crate::packed::{IC, SW};
+use crate::packed::{FT, IC, SW};
 use crate::shapes::{shape, Shape};
 use crate::subject::Lent;
-use crate::watch::place;
 use crate::words::{address, akin, count, edge, float, limits, signs};
+
+/// The command RPI, which clears FT too where its register names interrupt 1.
+const RPI: u16 = 0x2004;
 
 /// Puts an instruction where IC stands, with operands that it is likely to reach.
 pub fn plant(numbers: &mut Numbers, lent: &mut Lent) {
@@ -24,7 +27,13 @@ pub fn plant(numbers: &mut Numbers, lent: &mut Lent) {
                 operand(numbers, lent, target, accumulator);
                 second = second.wrapping_sub(index(lent, first));
             }
-            Some(Shape::Command) => second = second.wrapping_sub(index(lent, first)),
+            Some(Shape::Command) => {
+                if second == RPI && numbers.once_in(2) {
+                    set(lent, usize::from((first >> 4) & 0xF), &[numbers.word() & 0xFFF0 | 1]);
+                    lent.state[FT] = numbers.word();
+                }
+                second = second.wrapping_sub(index(lent, first));
+            }
             _ => {}
         }
     }

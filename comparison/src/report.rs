@@ -1,5 +1,6 @@
 //! A difference: where it was found, the fewest steps that show it, and what differs.
 
+use crate::accesses::refusals;
 use crate::compare::{Batch, Pair};
 use crate::packed::{name, unpack, unused, IC, STATE_WORDS};
 use crate::subject::{Call, Lent};
@@ -111,13 +112,18 @@ fn parts(lent: &Lent) -> Vec<u16> {
     lent.state.iter().zip(unused()).filter(|(_, unused)| !unused).map(|(word, _)| *word).collect()
 }
 
-/// What the next step of a machine does, in print, and how long it takes.
+/// What the next step of a machine does, in print, how long it takes, and which accesses are refused,
+/// each with its memory fault status.
 fn doing(lent: &Lent, durations: &[u16]) -> String {
     match unpack(&lent.state) {
         Some(state) => {
             let next = next(&state, &lent.memory, &lent.pages);
             let tenths = durations[next.number()];
-            format!("{next:04X?} at {:04X}, {tenths} tenths", lent.state[IC])
+            let refused: String = refusals(&state, &lent.memory, &lent.pages, next)
+                .iter()
+                .map(|r| format!("; {:?} {:04X} refused, {:04X}", r.part, r.address, r.status()))
+                .collect();
+            format!("{next:04X?} at {:04X}, {tenths} tenths{refused}", lent.state[IC])
         }
         None => format!("a state of {} words instead of {STATE_WORDS}", lent.state.len()),
     }

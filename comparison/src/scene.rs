@@ -2,13 +2,13 @@
 
 use crate::code::instruction;
 use crate::durations::{remainder, timer};
+use crate::lookup::place;
 use crate::numbers::Numbers;
-use crate::packed::{set_counter, unused, FT, IC, MARKS, MK, PI, STATE_WORDS, SW};
+use crate::packed::{set_counter, unused, FT, IC, MARKS, MFS, MK, PI, STATE_WORDS, SW};
 use crate::packed::{REMAINDER_A, REMAINDER_B, TIMER_A, TIMER_B};
 use crate::shapes::{shape, Shape};
 use crate::subject::Lent;
-use crate::watch::place;
-use crate::words::{address, edge, float, mask, pending, status, LINKAGE};
+use crate::words::{address, edge, fault_status, float, mask, pending, status, LINKAGE};
 
 /// Where the service blocks stand in page 0, eighteen words and two more for each interrupt.
 const SERVICE: u16 = 0x0180;
@@ -82,7 +82,8 @@ fn page_register(numbers: &mut Numbers, used: &[u16], frames: u16, plain: bool) 
     (lock << 12) | (protect << 11) | (reserved << 8) | frame
 }
 
-/// Puts linkage and service pointers where entries look for them, most of them ones that work.
+/// Puts linkage and service pointers where entries look for them, most of them ones that work; some
+/// service pointers have the new words on two pages.
 fn vectors(numbers: &mut Numbers, lent: &mut Lent) {
     let page = place(lent.pages[256], 0);
     let Some(page) = lent.memory.get_mut(page..page + 4096) else { return };
@@ -97,8 +98,10 @@ fn vectors(numbers: &mut Numbers, lent: &mut Lent) {
         let vector = usize::from(0x20 + 2 * number);
         let any = address(numbers);
         page[vector] = numbers.pick(&[LINKAGE + 4 * number, LINKAGE + 4 * number, any]);
-        let any = address(numbers);
-        page[vector + 1] = numbers.pick(&[service, service, service, any]);
+        let (any, last) =
+            (address(numbers), (numbers.small(16) << 12) | (0x0FFE + numbers.small(2)));
+        let pointers = [service, service, service, service, service, service, any, last];
+        page[vector + 1] = numbers.pick(&pointers);
     }
 }
 
@@ -122,6 +125,7 @@ pub fn stir(numbers: &mut Numbers, lent: &mut Lent) {
     state[MK] = mask(numbers);
     state[PI] = if numbers.once_in(3) { pending(numbers) } else { 0 };
     state[FT] = if numbers.once_in(6) { numbers.word() } else { 0 };
+    state[MFS] = fault_status(numbers);
     state[MARKS] = numbers.word() & numbers.pick(&[0xFFFD, 0xFFFD, 0xFFFF]);
     (state[TIMER_A], state[REMAINDER_A]) = (timer(numbers), remainder(numbers, 100));
     (state[TIMER_B], state[REMAINDER_B]) = (timer(numbers), remainder(numbers, 1000));

@@ -1,5 +1,6 @@
 //! The second simulator behind the packed state: whole runs, or one step at a time and watched.
 
+use crate::accesses::refusals;
 use crate::packed::{pack, unpack, WRONG_STATE};
 use crate::subject::{Lent, Subject};
 use crate::watch::{next, Seen};
@@ -68,8 +69,9 @@ impl<W: Watcher> Stepped<W> {
         }
         for _ in 0..budget {
             let (before, next) = (state.clone(), next(state, &lent.memory, &lent.pages));
+            let refusals = refusals(state, &lent.memory, &lent.pages, next);
             whole(1, durations, state, lent)?;
-            let seen = Seen { before: &before, next, durations };
+            let seen = Seen { before: &before, next, durations, refusals };
             self.watcher.stepped(&seen, state, &mut lent.memory);
         }
         Ok(())

@@ -1,8 +1,12 @@
 //! What the next step is about to do: enter an interrupt, or run which instruction.
 
+use crate::lookup::{Access, Part, Refused, View};
 use crate::packed::DURATIONS;
 use crate::shapes::{shape, Shape};
 use simulator::State;
+
+/// The opcode of BEX.
+pub const BEX: u16 = 0x77;
 
 /// What a step does.
 #[derive(Clone, Copy, Debug, PartialEq, Eq)]
@@ -25,17 +29,48 @@ impl Next {
     }
 }
 
-/// What is known of a step before it is made: the state, what it does, the durations lent to it.
+/// What is known of a step before it is made: the state, what it does, the durations lent to it,
+/// and the accesses that are refused, in the order of their checks.
 pub struct Seen<'a> {
     pub before: &'a State,
     pub next: Next,
     pub durations: &'a [u16],
+    pub refusals: Vec<Refused>,
 }
 
 impl Seen<'_> {
     /// How long the step takes.
     pub fn duration(&self) -> u16 {
         self.durations[self.next.number()]
+    }
+
+    /// The first word of an XIO with this command that is carried out.
+    pub fn commanded(&self, code: u16) -> Option<u16> {
+        match self.next {
+            Next::Instruction { first, command } if command == Some(code) => {
+                (self.before.sw & 0x00F0 == 0).then_some(first)
+            }
+            _ => None,
+        }
+    }
+
+    /// Whether the step is an entry, which BEX is too.
+    pub fn enters(&self) -> bool {
+        match self.next {
+            Next::Entry(_) => true,
+            Next::Instruction { first, .. } => first >> 8 == BEX,
+            Next::Refused => false,
+        }
+    }
+
+    /// The refused access that the memory fault status shows: the first of an instruction; of an
+    /// entry the first store, or else the last word that it reads.
+    pub fn shown(&self) -> Option<&Refused> {
+        if !self.enters() {
+            return self.refusals.first();
+        }
+        let store = self.refusals.iter().find(|refused| refused.part == Part::Linkage);
+        store.or(self.refusals.last())
     }
 }
 
@@ -46,31 +81,16 @@ pub fn next(state: &State, memory: &[u16], pages: &[u16]) -> Next {
     if takeable != 0 && !state.hold {
         return Next::Entry(takeable.leading_zeros() as usize);
     }
-    let Some(first) = fetched(state, memory, pages, state.ic) else {
+    let view = View::running(state, memory, pages);
+    let Ok(first) = view.word(Access::Fetch, state.ic) else {
         return Next::Refused;
     };
     let mut command = None;
     if shape((first >> 8) as u8) == Some(Shape::Command) {
         let index = usize::from(first & 0xF);
         let index = if index == 0 { 0 } else { state.r[index] };
-        let second = fetched(state, memory, pages, state.ic.wrapping_add(1));
-        command = second.map(|second| second.wrapping_add(index));
+        let second = view.word(Access::Fetch, state.ic.wrapping_add(1));
+        command = second.ok().map(|second| second.wrapping_add(index));
     }
     Next::Instruction { first, command }
-}
-
-/// The word that a fetch gives, nothing where it is refused.
-fn fetched(state: &State, memory: &[u16], pages: &[u16], address: u16) -> Option<u16> {
-    let register = *pages.get(usize::from(((state.sw & 0xF) << 4) | (address >> 12)))?;
-    let (lock, key) = (register >> 12, (state.sw >> 4) & 0xF);
-    let admitted = lock == 0xF || key == 0 || key == lock;
-    if !admitted || register & 0x0800 != 0 {
-        return None;
-    }
-    memory.get(place(register, address)).copied()
-}
-
-/// The physical place of an address by its page register.
-pub fn place(register: u16, address: u16) -> usize {
-    4096 * usize::from(register & 0xFF) + usize::from(address & 0x0FFF)
 }

@@ -166,6 +166,15 @@ pub fn status(numbers: &mut Numbers) -> u16 {
     condition | reserved | (key << 4) | group
 }
 
+/// A memory fault status: 0000, one that a refusal writes, or any word, with reserved bits.
+pub fn fault_status(numbers: &mut Numbers) -> u16 {
+    match numbers.below(4) {
+        0 => 0,
+        1 | 2 => (numbers.small(16) << 12) | (numbers.small(2) << 4) | numbers.small(16),
+        _ => numbers.word(),
+    }
+}
+
 /// Pending interrupts: none, one, some or all.
 pub fn pending(numbers: &mut Numbers) -> u16 {
     match numbers.below(8) {

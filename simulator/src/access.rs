@@ -1,13 +1,12 @@
 //! Fetches, reads and writes of logical addresses through the page registers.
 
 use crate::machine::{Fault, Machine};
-use crate::page::{locate, register_of, Access};
+use crate::page::Access;
 
 impl Machine<'_> {
     /// The physical place of a logical address for the running key and address state.
     fn physical(&self, access: Access, address: u16) -> Result<usize, Fault> {
-        let register = self.pages[register_of(access, self.state.group(), address)];
-        locate(register, self.state.key(), access, address, self.memory.len())
+        self.lookup(access, self.state.group(), self.state.key(), address)
     }
 
     /// Fetches the word at IC; IC moves on even where the fetch is refused.
@@ -46,6 +45,7 @@ impl Machine<'_> {
     }
 
     /// Writes successive words from an address on, all of them or none.
+    #[inline]
     pub(crate) fn write_words(&mut self, address: u16, words: &[u16]) -> Result<(), Fault> {
         let mut places = [0; 16];
         let places = &mut places[..words.len()];

@@ -39,13 +39,13 @@ impl Machine<'_> {
     fn control_output(&mut self, command: u16, value: u16) -> Done {
         let state = &mut *self.state;
         match command {
-            0x2000 => state.mk = value,                           // SMK
-            0x2001 => (state.pi, state.ft) = (0, 0),              // CLIR
-            0x2002 => (state.enabled, state.hold) = (true, true), // ENBL
-            0x2003 => state.enabled = false,                      // DSBL
-            0x2004 => self.reset_pending(value & 0xF),            // RPI
-            0x2005 => (state.pi, state.hold) = (value, true),     // SPI
-            0x200E => state.sw = value,                           // WSW
+            0x2000 => state.mk = value,                            // SMK
+            0x2001 => (state.pi, state.ft, state.mfs) = (0, 0, 0), // CLIR
+            0x2002 => (state.enabled, state.hold) = (true, true),  // ENBL
+            0x2003 => state.enabled = false,                       // DSBL
+            0x2004 => self.reset_pending(value & 0xF),             // RPI
+            0x2005 => (state.pi, state.hold) = (value, true),      // SPI
+            0x200E => state.sw = value,                            // WSW
             _ => return Err(Fault::COMMAND),
         }
         Ok(())
@@ -64,6 +64,7 @@ impl Machine<'_> {
         let value = match command {
             0xA000 => self.state.mk,       // RMK
             0xA004 => self.state.pi,       // RPIR
+            0xA00D => self.state.mfs,      // RMFS
             0xA00E => self.state.sw,       // RSW
             0xA00F => self.clear_faults(), // RCFR
             _ => return Err(Fault::COMMAND),

@@ -1,7 +1,7 @@
 //! Interrupt entry (4.6.1.4) and the branch to the executive.
 
 use crate::machine::{Fault, Machine};
-use crate::page::{locate, register_of, Access};
+use crate::page::Access;
 
 /// The interrupt of the executive call.
 const EXECUTIVE: u16 = 5;
@@ -34,19 +34,13 @@ impl Machine<'_> {
 
     /// Reads with address state 0 and key 0; a refused word counts as 0 and sets its fault.
     fn vector_word(&mut self, address: u16) -> u16 {
-        match self.implied(Access::Read, 0, address) {
+        match self.lookup(Access::Read, 0, 0, address) {
             Ok(place) => self.memory[place],
             Err(fault) => {
                 self.raise(fault);
                 0
             }
         }
-    }
-
-    /// The place of an address in a given group for key 0.
-    fn implied(&self, access: Access, group: u16, address: u16) -> Result<usize, Fault> {
-        let register = self.pages[register_of(access, group, address)];
-        locate(register, 0, access, address, self.memory.len())
     }
 
     /// Stores old MK, SW, IC in the new address state, all or none, and takes the new ones.
@@ -69,7 +63,7 @@ impl Machine<'_> {
         let mut places = [0; 3];
         for (distance, place) in (0..).zip(places.iter_mut()) {
             let address = linkage.wrapping_add(distance);
-            *place = self.implied(Access::Write, self.state.group(), address)?;
+            *place = self.lookup(Access::Write, self.state.group(), 0, address)?;
         }
         Ok(places)
     }

@@ -9,21 +9,33 @@ const NO_FIRST_WORD: usize = 256;
 const UNIT_A: u32 = 100;
 const UNIT_B: u32 = 1_000;
 
-/// Why an instruction is given up: the bit that it sets in FT (4.4.2.3).
+/// Why an instruction is given up: the bit that it sets in FT (4.4.2.3) and, where the address
+/// lookup refused, the memory fault status that it leaves (4.4.2.8).
 #[derive(Clone, Copy, Debug, PartialEq, Eq)]
-pub(crate) struct Fault(pub(crate) u16);
+pub(crate) struct Fault {
+    bit: u16,
+    status: Option<u16>,
+}
 
 impl Fault {
-    /// Bit 0: a lock, execute protection or write protection.
-    pub(crate) const PROTECTION: Fault = Fault(0x8000);
     /// Bit 5: an unknown input/output command.
-    pub(crate) const COMMAND: Fault = Fault(0x8000 >> 5);
-    /// Bit 8: a physical address outside the memory.
-    pub(crate) const ADDRESS: Fault = Fault(0x8000 >> 8);
+    pub(crate) const COMMAND: Fault = Fault { bit: 0x8000 >> 5, status: None };
     /// Bit 9: an illegal instruction.
-    pub(crate) const ILLEGAL: Fault = Fault(0x8000 >> 9);
+    pub(crate) const ILLEGAL: Fault = Fault { bit: 0x8000 >> 9, status: None };
     /// Bit 10: a privileged instruction with PS other than 0.
-    pub(crate) const PRIVILEGED: Fault = Fault(0x8000 >> 10);
+    pub(crate) const PRIVILEGED: Fault = Fault { bit: 0x8000 >> 10, status: None };
+
+    /// Bit 0, for a lock, execute protection or write protection in the page register of a status.
+    #[cold]
+    pub(crate) fn protection(status: u16) -> Fault {
+        Fault { bit: 0x8000, status: Some(status) }
+    }
+
+    /// Bit 8, for a physical address outside the memory that the page register of a status gave.
+    #[cold]
+    pub(crate) fn address(status: u16) -> Fault {
+        Fault { bit: 0x8000 >> 8, status: Some(status) }
+    }
 }
 
 /// What an instruction comes to: done, or given up with nothing changed.
@@ -69,10 +81,13 @@ impl Machine<'_> {
         }
     }
 
-    /// Marks a fault and the machine error interrupt.
+    /// Marks a fault and the machine error interrupt; a refusal of the lookup leaves its status.
     pub(crate) fn raise(&mut self, fault: Fault) {
-        self.state.ft |= fault.0;
+        self.state.ft |= fault.bit;
         self.state.pi |= MACHINE_ERROR;
+        if let Some(status) = fault.status {
+            self.state.mfs = status;
+        }
     }
 
     /// The end of every step: the counter, then the timers that run (4.4.5), which have got on by

@@ -38,6 +38,9 @@ pub struct State {
     pub pi: u16,
     /// The faults.
     pub ft: u16,
+    /// The memory fault status (4.4.2.8): the page register of the lookup's last refusal that set
+    /// a fault.
+    pub mfs: u16,
     /// Whether interrupts are enabled.
     pub enabled: bool,
     /// The hold mark: no interrupt before one more instruction has run.
@@ -68,6 +71,7 @@ impl Default for State {
             mk: 0,
             pi: 0,
             ft: 0,
+            mfs: 0,
             enabled: false,
             hold: false,
             timer_a: 0,

@@ -1,7 +1,7 @@
 //! Mistakes in which duration a step takes.
 
 use crate::common::{agrees, caught_in_steps, first_word, Mistake};
-use crate::timing::{commanded, duration, entry, faults, lent, taking, timed_a};
+use crate::timing::{duration, entry, faults, lent, taking, timed_a};
 use comparison::Next;
 
 /// The mistakes.
@@ -57,7 +57,7 @@ const MISTAKES: [(&str, Mistake); 9] = [
 #[test]
 fn nothing_is_reported_of_the_right_duration() {
     agrees(|seen, after, _| {
-        if let Some(first) = commanded(seen, 0x400A) {
+        if let Some(first) = seen.commanded(0x400A) {
             let timer = seen.before.r[usize::from((first >> 4) & 0xF)];
             timed_a(seen, after, timer, duration(seen));
         } else if first_word(seen, 0x48).is_none() {

@@ -65,7 +65,7 @@ const RUNS: [(&str, Run); 8] = [
     ("a refusal by 17 clears what is not looked at", |budget, durations, lent| {
         let answer = Simulated.run(budget, durations, lent);
         if answer == 17 {
-            lent.state[26] = 0;
+            lent.state[27] = 0;
         }
         answer
     }),

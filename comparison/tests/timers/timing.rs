@@ -63,16 +63,6 @@ pub fn duration(seen: &Seen) -> u32 {
     u32::from(seen.duration())
 }
 
-/// The first word of an XIO with this command that is carried out.
-pub fn commanded(seen: &Seen, code: u16) -> Option<u16> {
-    match seen.next {
-        Next::Instruction { first, command } if command == Some(code) => {
-            (seen.before.sw & 0x00F0 == 0).then_some(first)
-        }
-        _ => None,
-    }
-}
-
 /// Whether the step runs an instruction that faults with some of these bits of FT.
 pub fn faults(seen: &Seen, after: &State, bits: u16) -> bool {
     matches!(seen.next, Next::Instruction { .. }) && after.ft & !seen.before.ft & bits != 0

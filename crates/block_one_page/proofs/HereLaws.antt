@@ -19,7 +19,6 @@ use Rattle.page.specs.declared.Verdict.the-variants.{Clear}
 use Rattle.page.specs.Pages.{lookup}
 use Rattle.page.specs.Spans.{wrapped, gotAt, wordOf, putAt, andThen, passed, checkedFrom, checked, readFrom, wordsOf, writtenFrom, written}
 use Rattle.page.proofs.SpanLaws.{taken}
-use Rattle.page.proofs.ReachLaws.{OnPlace}
 use Rattle.page.proofs.EachLaws.{along, words-length}
 use Rattle.page.proofs.NearLaws.{Found, found-inside, found-clear, words-at, found-up, found-down}
 use Rattle.decode.specs.Forms.{modeOf, operationOf}
@@ -35,6 +34,8 @@ use Rattle.isa.specs.Blocks.{rearranged, loadedAll, poppedFrom, poppedAll, move
 use Rattle.isa.specs.Mil1750.{contextOf}
 use Rattle.isa.specs.Execute.{executed}
 use Rattle.block_registers.specs.Operation.{Finished, Attempted}
+use Rattle.block_one_page.specs.declared.Extent.{Extent}
+use Rattle.block_one_page.specs.declared.Extent.the-variants.{From, Apart}
 use Rattle.block_one_page.specs.Extents.{fitting, extentOf, storedAt}
 use Rattle.block_registers.proofs.BlockLaws.{none-chosen, operand-unwritten}
 
@@ -166,29 +167,34 @@ module _ (key group : ℕ) (g : List ℕ) (size : ℕ) (n : Instruction) where
 
 -- ---- an extent that was found
 
+-- what holds of its first word, if there is one
+abbrev OnExtent : (ℕ → Type 0) → Extent → Type 0
+OnExtent P (From p) = P p
+OnExtent P Apart = Unit {0}
+
 -- p is the place of the first of count words from the logical address a on, which are all of one page and inside the memory
 abbrev pub ExtentAt : Access → ℕ → ℕ → List ℕ → ℕ → ℕ → ℕ → ℕ → Type 0
 ExtentAt k key group g size a count p = (lookup k key group g size a ≡ At p) × (a % 4096 + count ≤ 4096) × (p + count ≤ size)
 
 module _ (k : Access) (key group : ℕ) (g : List ℕ) (size a count : ℕ) where
-  extent-fits : a % 4096 + count ≤ 4096 → (q : Place) → lookup k key group g size a ≡ q → OnPlace (ExtentAt k key group g size a count) (fitting size count q)
+  extent-fits : a % 4096 + count ≤ 4096 → (q : Place) → lookup k key group g size a ≡ q → OnExtent (ExtentAt k key group g size a count) (fitting size count q)
   unfolding fitting
   extent-fits l (At p) e = by (ltb (size - p) count) refl
     where
-      by : (b : Bool) → ltb (size - p) count ≡ b → OnPlace (ExtentAt k key group g size a count) (cond b (Refused 0) (At p))
+      by : (b : Bool) → ltb (size - p) count ≡ b → OnExtent (ExtentAt k key group g size a count) (cond b Apart (From p))
       by true h = tt
       by false h = (e, l, omega (arith, ltb-false (size - p) count h, found-inside k key group g size a p e))
   extent-fits l (Refused b) e = tt
 
-  extent-placed : OnPlace (ExtentAt k key group g size a count) (extentOf k key group g size a count)
+  extent-placed : OnExtent (ExtentAt k key group g size a count) (extentOf k key group g size a count)
   unfolding extentOf
   extent-placed = by (ltb 4096 (a % 4096 + count)) refl
     where
-      by : (b : Bool) → ltb 4096 (a % 4096 + count) ≡ b → OnPlace (ExtentAt k key group g size a count) (cond b (Refused 0) (fitting size count (lookup k key group g size a)))
+      by : (b : Bool) → ltb 4096 (a % 4096 + count) ≡ b → OnExtent (ExtentAt k key group g size a count) (cond b Apart (fitting size count (lookup k key group g size a)))
       by true h = tt
       by false h = extent-fits (ltb-false 4096 (a % 4096 + count) h) _ refl
 
-  pub extent-found : (q : Place) (p : ℕ) → q ≡ extentOf k key group g size a count → q ≡ At p → ExtentAt k key group g size a count p
+  pub extent-found : (q : Extent) (p : ℕ) → q ≡ extentOf k key group g size a count → q ≡ From p → ExtentAt k key group g size a count p
   extent-found q p e f = rw (← e, f) at extent-placed
 
 field-few : (w : ℕ) → fieldA w + 1 ≤ 16

@@ -4,12 +4,13 @@ ghost use Prim.Native.Nat.{_+_, _-_, _≤_, _<_};
 ghost use lib.ListN.{length};
 ghost use Rattle.isa.specs.Blocks.{pushedFrom};
 ghost use Rattle.block_one_page.specs.Extents.{extentOf, storedAt};
+use crate::Extent;
 use block_words::stores::pushed_word;
 use page::Access;
 use page::Place;
 use page::lookup::look_up;
 
-// Where count words from the logical address a on lie, if all are of one page and inside the memory; else a refusal without a bit of FT. Callers have
+// Where count words from the logical address a on lie, if all are of one page, open and inside the memory. Callers have
 // 512 page registers and a group of four bits, and ask for sixteen at most.
 pub(crate) fn find_extent(
     access: Access,
@@ -19,21 +20,21 @@ pub(crate) fn find_extent(
     size: usize,
     a: u16,
     count: u16,
-) -> Place
+) -> Extent
     requires { ⌜ (length (now pages) ≡ 512) × (group < 16) × (count ≤ 16) ⌝ }
     ensures { λ r. ⌜ r ≡ extentOf access key group (now (pages .entry)) size a count ⌝ }
 {
     if 4096 < a % 4096 + count {
-        return Place::Refused(0);
+        return Extent::Apart;
     }
     let place = look_up(access, key, group, pages, size, a);
     let Place::At(p) = place else {
-        return Place::Refused(0);
+        return Extent::Apart;
     };
     if size - p < count as usize {
-        return Place::Refused(0);
+        return Extent::Apart;
     }
-    Place::At(p)
+    Extent::From(p)
 }
 
 // STM: the first count registers go to the words from p on.

@@ -6,6 +6,7 @@ ghost use lib.ListN.{length, getD, set};
 ghost use Rattle.decode.specs.Forms.{operationOf};
 ghost use Rattle.machine.specs.State.{Keyed, joined};
 ghost use Rattle.block_registers.specs.Operation.{Attempted};
+use crate::Extent;
 use crate::extents::find_extent;
 use crate::extents::push_extent;
 use crate::extents::store_extent;
@@ -102,7 +103,7 @@ fn try_load(
         n.address,
         count,
     );
-    let Place::At(p) = extent else {
+    let Extent::From(p) = extent else {
         return Tried { done: false, core };
     };
     Tried {
@@ -134,7 +135,7 @@ fn try_pop(
         get(regs, 15),
         count,
     );
-    let Place::At(p) = extent else {
+    let Extent::From(p) = extent else {
         return Tried { done: false, core };
     };
     Tried {
@@ -166,7 +167,7 @@ fn try_store(
         n.address,
         count,
     );
-    let Place::At(p) = extent else {
+    let Extent::From(p) = extent else {
         return Tried { done: false, core };
     };
     store_extent(regs, memory, p, count);

@@ -7,6 +7,7 @@ use lib.Dec.{T}
 use lib.ListN.{getD, set, replicate}
 use Rattle.choice.proofs.Rows.{Row, one, some, hold, flag}
 use Rattle.page.specs.declared.Got.the-variants.{Word}
+use Rattle.page.specs.Pages.{refusal}
 use Rattle.machine.specs.declared.Core.{Core}
 use Rattle.machine.specs.declared.Clock.{Clock}
 use Rattle.machine.specs.State.{withPi}
@@ -31,7 +32,7 @@ abbrev time : Clock → List ℕ
 time t = t .ta ∷ t .tb ∷ t .rema ∷ t .remb ∷ t .count ∷ []
 
 abbrev core : Core
-core = record { ic = 0x0100; sw = 0; mk = 0; pi = 0x0400; ft = 0x0100; enabled = true; hold = true }
+core = record { ic = 0x0100; sw = 0; mk = 0; pi = 0x0400; faults = record { ft = 0x0100; mfs = 0xC005 }; enabled = true; hold = true }
 
 pub rows : List Row
 unfolding machinery afterTicks longestTo longestOf ticksLeft deferrableOf
@@ -48,9 +49,9 @@ rows =
     ∷ one (deferrableOf c 100 100) 5 29 6
     -- time::release: the hold mark kept; interrupts disabled
     ∷ some (let t = released core in flag (t .hold) ∷ flag (t .enabled) ∷ []) (0 ∷ 1 ∷ []) (1 ∷ 1 ∷ []) (0 ∷ 0 ∷ [])
-    -- time::fault: PI bit 0 in place of bit 1; the old bits of FT lost
-    ∷ some (let t = faulted core 0x8000 0x0102 in t .ic ∷ t .pi ∷ t .ft ∷ [])
-    (0x0102 ∷ 0x4400 ∷ 0x8100 ∷ []) (0x0102 ∷ 0x8400 ∷ 0x8100 ∷ []) (0x0102 ∷ 0x4400 ∷ 0x8000 ∷ [])
+    -- time::fault: PI bit 0 in place of bit 1; the old memory fault status kept
+    ∷ some (let t = faulted core (refusal 0x8000 0x1003) 0x0102 in t .ic ∷ t .pi ∷ t .faults .ft ∷ t .faults .mfs ∷ [])
+    (0x0102 ∷ 0x4400 ∷ 0x8100 ∷ 0x1003 ∷ []) (0x0102 ∷ 0x8400 ∷ 0x8100 ∷ 0x1003 ∷ []) (0x0102 ∷ 0x4400 ∷ 0x8100 ∷ 0xC005 ∷ [])
     -- time::pend: the old bits of PI lost; one of the new bits lost
     ∷ one (withPi core (bitOr (core .pi) 0x0140) .pi) 0x0540 0x0140 0x0440
     -- time::elapse: the remainder of timer B dropped; timer A left at its end

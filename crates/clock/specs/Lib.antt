@@ -1,2 +1,2 @@
--- The definition of deferred ticks.
+-- The definitions of deferred ticks and of the longest duration.
 pub mod Deferred

@@ -8,6 +8,8 @@ ghost use Rattle.machine.specs.State.{withPi};
 ghost use Rattle.machine.specs.Step.{released, faulted, rises, remaining, risen, elapsed, expired};
 use machine::Clock;
 use machine::Core;
+use machine::fault::after_fault;
+use page::Refusal;
 use std::num::wrapping_add_u16;
 use std::num::wrapping_add_u32;
 
@@ -20,14 +22,14 @@ pub fn release(core: Core) -> Core
     t
 }
 
-// A fault sets its FT bit b and PI bit 1, and leaves IC at a.
-pub fn fault(core: Core, b: u16, a: u16) -> Core
+// A fault sets its FT bit and PI bit 1, and leaves IC at a.
+pub fn fault(core: Core, b: Refusal, a: u16) -> Core
     ensures { λ r. ⌜ r ≡ faulted core b a ⌝ }
 {
     let mut t = core;
     t.ic = a;
     t.pi = core.pi | 0x4000;
-    t.ft = core.ft | b;
+    t.faults = after_fault(core.faults, b);
     t
 }
 

@@ -22,10 +22,10 @@ s = stateAt (0 ∷ 7 ∷ replicate 14 0) 0x00FF 0
 abbrev n : Instruction
 n = record { ic = 0x00FF; form = 0x2801; first = 0x4810; second = 0x5202; address = 0x5202 }
 
--- IC, and the page registers 2, 257 and 258; the FT bit of a refusal
+-- IC, and the page registers 2, 257 and 258; a refusal
 abbrev shown : Supervised → List ℕ
 shown (done r) = r .state .core .ic ∷ getD (r .pages) 2 0 ∷ getD (r .pages) 257 0 ∷ getD (r .pages) 258 0 ∷ []
-shown (refused b) = b ∷ []
+shown (refused b) = b .ft ∷ b .mfs ∷ []
 
 pub rows : List Row
 unfolding machinery instructions

@@ -10,14 +10,15 @@ use addressing::fields::field_a;
 use addressing::fields::get;
 use machine::Core;
 use machine::Instruction;
+use page::Refusal;
 
 pub mod timers;
 mod xio;
 
-// The command is done, and leaves this core; or it is refused with an FT bit, and nothing is changed.
+// The command is done, and leaves this core; or it is refused, and nothing is changed.
 pub enum Governed {
     Done(Core),
-    Refused(u16),
+    Refused(Refusal),
 }
 
 // XIO n: the command in its derived operand, which is no timer command; whatever the clock is.

@@ -15,6 +15,7 @@ use crate::Governed;
 use addressing::fields::field_a;
 use addressing::fields::put;
 use bits::bits::reset_bit;
+use command_core::clear_pending;
 use command_core::hold_pending;
 use command_core::reset_pending;
 use command_core::set_enabled;
@@ -23,6 +24,7 @@ use command_core::set_pending;
 use command_core::set_status;
 use machine::Core;
 use machine::Instruction;
+use page::Refusal;
 
 // The outputs to the core: SMK CLIR ENBL DSBL RPI SPI WSW.
 fn core_output(core: Core, ra: u16, command: u16) -> Governed
@@ -31,13 +33,13 @@ fn core_output(core: Core, ra: u16, command: u16) -> Governed
 {
     match command {
         0x2000 => Governed::Done(set_mask(core, ra)),
-        0x2001 => Governed::Done(set_pending(core, 0, 0)),
+        0x2001 => Governed::Done(clear_pending(core)),
         0x2002 => Governed::Done(set_enabled(core, true, true)),
         0x2003 => Governed::Done(set_enabled(core, false, core.hold)),
         0x2004 => Governed::Done(reset_pending(core, ra % 16)),
         0x2005 => Governed::Done(hold_pending(core, ra)),
         0x200E => Governed::Done(set_status(core, ra)),
-        _ => Governed::Refused(0x0400),
+        _ => Governed::Refused(Refusal { ft: 0x0400, mfs: 0 }),
     }
 }
 
@@ -80,7 +82,7 @@ fn take(regs: &mut [u16; 16], n: Instruction, x: u16)
     put(regs, field_a(n.first), x);
 }
 
-// The inputs from the core: RMK RPIR RSW RCFR.
+// The inputs from the core: RMK RPIR RMFS RSW RCFR.
 fn core_input(core: Core, regs: &mut [u16; 16], n: Instruction) -> Governed
     requires { ⌜ 0x8000 ≤ n .address ⌝ }
     ensures { λ r. ⌜ ((s : State) (g o : List ℕ) (ra : ℕ) → governed s r (now (regs .exit)) g o ≡ coreCommand (withProcessor s (joined core (now (regs .entry)))) g o n ra (n .address))
@@ -96,15 +98,19 @@ fn core_input(core: Core, regs: &mut [u16; 16], n: Instruction) -> Governed
             take(regs, n, core.pi);
             Governed::Done(core)
         }
+        0xA00D => {
+            take(regs, n, core.faults.mfs);
+            Governed::Done(core)
+        }
         0xA00E => {
             take(regs, n, core.sw);
             Governed::Done(core)
         }
         0xA00F => {
-            take(regs, n, core.ft);
+            take(regs, n, core.faults.ft);
             Governed::Done(set_pending(core, reset_bit(core.pi, 1), 0))
         }
-        _ => Governed::Refused(0x0400),
+        _ => Governed::Refused(Refusal { ft: 0x0400, mfs: 0 }),
     }
 }
 

@@ -2,10 +2,11 @@
 ghost use mathlib.Core.Path.{_≡_};
 ghost use mathlib.Core.Bool.{true};
 ghost use Prim.Native.Nat.{_<_};
-ghost use Rattle.machine.specs.State.{withSw, withMk, withPi, withFt, withEnabled, withHold};
+ghost use Rattle.machine.specs.State.{withSw, withMk, withPi, withFt, withMfs, withEnabled, withHold};
 ghost use Rattle.isa.specs.Commands.{resumed, pendingReset, statusLoaded};
 use bits::bits::reset_bit;
 use machine::Core;
+use machine::Faults;
 use machine::Instruction;
 
 // IC is that of the next instruction.
@@ -46,13 +47,28 @@ pub fn set_status(core: Core, sw: u16) -> Core
     t
 }
 
-// PI and FT.
+// PI and FT; the memory fault status stays.
 pub fn set_pending(core: Core, pi: u16, ft: u16) -> Core
     ensures { λ r. ⌜ r ≡ withFt (withPi core pi) ft ⌝ }
 {
+    let faults = Faults {
+        ft,
+        mfs: core.faults.mfs,
+    };
     let mut t = core;
     t.pi = pi;
-    t.ft = ft;
+    t.faults = faults;
+    t
+}
+
+// CLIR: PI, FT and the memory fault status are cleared.
+pub fn clear_pending(core: Core) -> Core
+    ensures { λ r. ⌜ r ≡ withMfs (withFt (withPi core 0) 0) 0 ⌝ }
+{
+    let faults = Faults { ft: 0, mfs: 0 };
+    let mut t = core;
+    t.pi = 0;
+    t.faults = faults;
     t
 }
 
@@ -75,18 +91,19 @@ pub fn reset_pending(core: Core, k: u16) -> Core
     if k == 1 {
         return set_pending(core, pi, 0);
     }
-    set_pending(core, pi, core.ft)
+    set_pending(core, pi, core.faults.ft)
 }
 
 // Interrupts enabled, and the hold mark. All parts are written: a copy of the others in between would wait for them (docs/BENCHMARK.md, "Sizes").
 pub fn set_enabled(core: Core, enabled: bool, hold: bool) -> Core
     ensures { λ r. ⌜ r ≡ withHold (withEnabled core enabled) hold ⌝ }
 {
+    let faults = core.faults;
     Core {
         ic: core.ic,
         pi: core.pi,
         sw: core.sw,
-        ft: core.ft,
+        faults,
         mk: core.mk,
         enabled,
         hold,

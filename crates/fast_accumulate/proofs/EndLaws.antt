@@ -5,6 +5,7 @@ use mathlib.Core.Bool.{Bool, true, false, cond, false≢true}
 use mathlib.Core.List.{List}
 use lib.Bits.{bitOr}
 use lib.ListN.{length, set}
+use Rattle.page.specs.declared.Refusal.{Refusal}
 use Rattle.page.specs.declared.Access.{Access}
 use Rattle.page.specs.declared.Access.the-variants.{Read, Write}
 use Rattle.page.specs.declared.Place.{Place}
@@ -90,7 +91,7 @@ module _ (s : Processor) (m g : List ℕ) (n : Instruction) (user : classOf (ope
   abbrev writing : Verdict
   writing = checked (keyOf (s .core .sw)) (groupOf (s .core .sw)) g (length m) (writesOf (s .regs) n) Write
 
-  pub ended-clear : (e : Effect) (c : Bool) (fault : ℕ) (t : Processor) (w : List ℕ) → reading ≡ Clear → writing ≡ Clear
+  pub ended-clear : (e : Effect) (c : Bool) (fault : Refusal) (t : Processor) (w : List ℕ) → reading ≡ Clear → writing ≡ Clear
       → executed (contextOf s) n (operandWords s m g n) ≡ e → c ≡ true → t ≡ affected s e → w ≡ stored (s .core) m g e (writesOf (s .regs) n) → Ended s m g n c fault t w
   unfolding both
   ended-clear e c fault t w p q d h i j = record {
@@ -99,7 +100,7 @@ module _ (s : Processor) (m g : List ℕ) (n : Instruction) (user : classOf (ope
     when-refused = λ r. absurd (false≢true (sym r ∙ h));
   }
 
-  pub ended-refused : (c : Bool) (fault : ℕ) (t : Processor) → verdict s m g n ≡ Fault fault → c ≡ false → t ≡ s → Ended s m g n c fault t m
+  pub ended-refused : (c : Bool) (fault : Refusal) (t : Processor) → verdict s m g n ≡ Fault fault → c ≡ false → t ≡ s → Ended s m g n c fault t m
   ended-refused c fault t p h i = record {
     by-user = user;
     when-clear = λ r. absurd (false≢true (sym h ∙ r));
@@ -123,14 +124,14 @@ module _ (s : Processor) (m g : List ℕ) (n : Instruction) (user : classOf (ope
     pub words-first : v .clear ≡ true → FirstThree (operandWords s m g n) (v .x) (v .y) (v .z)
     words-first h = all-gathered _ _ v gathers h .1
 
-    pub read-done : (f : Effect) (c : Bool) (fault : ℕ) (t : Processor) → v .clear ≡ true → executed (contextOf s) n (operandWords s m g n) ≡ f → c ≡ true
+    pub read-done : (f : Effect) (c : Bool) (fault : Refusal) (t : Processor) → v .clear ≡ true → executed (contextOf s) n (operandWords s m g n) ≡ f → c ≡ true
         → t ≡ affected s f → Ended s m g n c fault t m
     unfolding stored
     read-done f c fault t h x r j =
         ended-clear f c fault t m (all-gathered _ _ v gathers h .0) unwritten x r j
         (rw writes (sym (none-written (keyOf (s .core .sw)) (groupOf (s .core .sw)) g (length m) (n .address) (f .words) m (inMemory (modeOf (n .form))))))
 
-    pub read-refused : (c : Bool) (fault : ℕ) (t : Processor) → v .clear ≡ false → c ≡ false → fault ≡ v .fault → t ≡ s → Ended s m g n c fault t m
+    pub read-refused : (c : Bool) (fault : Refusal) (t : Processor) → v .clear ≡ false → c ≡ false → fault ≡ v .fault → t ≡ s → Ended s m g n c fault t m
     unfolding both
     read-refused c fault t h r q j = ended-refused c fault t (rw (denied-gathered _ _ v gathers h, q) refl) r j
 
@@ -141,7 +142,7 @@ module _ (s : Processor) (m g : List ℕ) (n : Instruction) (user : classOf (ope
     unread = rw reads (none-checked (keyOf (s .core .sw)) (groupOf (s .core .sw)) g (length m) (n .address) Read (inMemory (modeOf (n .form))))
 
     pub idle-done : (b : Bool) → writesOf (s .regs) n ≡ spanFrom (n .address) (cond b 0 0)
-        → (f : Effect) (c : Bool) (fault : ℕ) (t : Processor) → executed (contextOf s) n (operandWords s m g n) ≡ f → c ≡ true → t ≡ affected s f → Ended s m g n c fault t m
+        → (f : Effect) (c : Bool) (fault : Refusal) (t : Processor) → executed (contextOf s) n (operandWords s m g n) ≡ f → c ≡ true → t ≡ affected s f → Ended s m g n c fault t m
     unfolding stored
     idle-done b writes f c fault t x r j =
         ended-clear f c fault t m unread (rw writes (none-checked (keyOf (s .core .sw)) (groupOf (s .core .sw)) g (length m) (n .address) Write b)) x r j
@@ -155,14 +156,14 @@ module _ (s : Processor) (m g : List ℕ) (n : Instruction) (user : classOf (ope
       placed : writing ≡ andThen q Clear
       placed = rw (writes, ← looked) (one-checked (keyOf (s .core .sw)) (groupOf (s .core .sw)) g (length m) (n .address) Write)
 
-      pub store-done : (p x : ℕ) (f : Effect) (c : Bool) (fault : ℕ) (t : Processor) → q ≡ At p → f .words ≡ three x 0 0
+      pub store-done : (p x : ℕ) (f : Effect) (c : Bool) (fault : Refusal) (t : Processor) → q ≡ At p → f .words ≡ three x 0 0
           → executed (contextOf s) n (operandWords s m g n) ≡ f → c ≡ true → t ≡ affected s f → Ended s m g n c fault t (set m p x)
       unfolding stored andThen putAt
       store-done p x f c fault t h y z r j =
           ended-clear f c fault t (set m p x) unread (placed ∙ ap (λ (u : Place). andThen u Clear) h) z r j
           (rw (writes, y) (sym (one-written (keyOf (s .core .sw)) (groupOf (s .core .sw)) g (length m) (n .address) x m ∙ ap (λ (u : Place). putAt m u x) (looked ∙ h))))
 
-      pub store-refused : (b : ℕ) (c : Bool) (fault : ℕ) (t : Processor) → q ≡ Refused b → c ≡ false → fault ≡ b → t ≡ s → Ended s m g n c fault t m
+      pub store-refused : (b : Refusal) (c : Bool) (fault : Refusal) (t : Processor) → q ≡ Refused b → c ≡ false → fault ≡ b → t ≡ s → Ended s m g n c fault t m
       unfolding both andThen
       store-refused b c fault t h r y j =
           ended-refused c fault t (rw (unread, placed, h, y) refl) r j
@@ -175,14 +176,14 @@ module _ (s : Processor) (m g : List ℕ) (n : Instruction) (user : classOf (ope
       both-placed : writing ≡ andThen (at (n .address)) (andThen (at (wrapped (n .address + 1))) Clear)
       both-placed = rw (writes, ← d, ← e) (two-checked key group g (length m) (n .address) Write)
 
-      pub pair-done : (p q x y : ℕ) (f : Effect) (c : Bool) (fault : ℕ) (t : Processor) → at (n .address) ≡ At p → at (wrapped (n .address + 1)) ≡ At q → f .words ≡ three x y 0
+      pub pair-done : (p q x y : ℕ) (f : Effect) (c : Bool) (fault : Refusal) (t : Processor) → at (n .address) ≡ At p → at (wrapped (n .address + 1)) ≡ At q → f .words ≡ three x y 0
           → executed (contextOf s) n (operandWords s m g n) ≡ f → c ≡ true → t ≡ affected s f → Ended s m g n c fault t (set (set m p x) q y)
       unfolding stored andThen putAt
       pair-done p q x y f c fault t h i k z r j =
           ended-clear f c fault t (set (set m p x) q y) unread (both-placed ∙ rw (h, i) refl) z r j
           (rw (writes, k, ← d, ← e) (sym (two-written key group g (length m) (n .address) x y m ∙ rw (h, i) refl)))
 
-      pub pair-refused : (b : ℕ) (c : Bool) (fault : ℕ) (t : Processor) → andThen (at (n .address)) (andThen (at (wrapped (n .address + 1))) Clear) ≡ Fault b
+      pub pair-refused : (b : Refusal) (c : Bool) (fault : Refusal) (t : Processor) → andThen (at (n .address)) (andThen (at (wrapped (n .address + 1))) Clear) ≡ Fault b
           → c ≡ false → fault ≡ b → t ≡ s → Ended s m g n c fault t m
       unfolding both
       pair-refused b c fault t h r y j = ended-refused c fault t (rw (unread, both-placed, h, y) refl) r j

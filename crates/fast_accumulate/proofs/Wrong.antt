@@ -42,7 +42,7 @@ abbrev n : Instruction
 n = record { ic = 0x0100; form = 0x2627; first = 0x8600; second = 1; address = 1 }
 
 abbrev parts : Gathered → List ℕ
-parts r = flag (r .clear) ∷ r .fault ∷ r .x ∷ r .y ∷ r .z ∷ []
+parts r = flag (r .clear) ∷ r .fault .ft ∷ r .fault .mfs ∷ r .x ∷ r .y ∷ r .z ∷ []
 
 pub rows : List Row
 unfolding machinery instructions gathered complete denied
@@ -51,7 +51,7 @@ rows =
     some (shown (affected p e)) (0x0102 ∷ 0x4031 ∷ 0x0C00 ∷ []) (0x0102 ∷ 0x4031 ∷ 0x0800 ∷ []) (0x0102 ∷ 0x4000 ∷ 0x0C00 ∷ [])
     -- operand::read_operand: the words from the next address on; one word too many
     ∷ some (parts (gathered (checked 0 0 g 4 (atOperand n 2) Read) (wordsOf 0 0 g 4 (atOperand n 2) memory)))
-    (1 ∷ 0 ∷ 6 ∷ 7 ∷ 0 ∷ []) (1 ∷ 0 ∷ 7 ∷ 8 ∷ 0 ∷ []) (1 ∷ 0 ∷ 6 ∷ 7 ∷ 8 ∷ [])
+    (1 ∷ 0 ∷ 0 ∷ 6 ∷ 7 ∷ 0 ∷ []) (1 ∷ 0 ∷ 0 ∷ 7 ∷ 8 ∷ 0 ∷ []) (1 ∷ 0 ∷ 0 ∷ 6 ∷ 7 ∷ 8 ∷ [])
     ∷ []
 
 pub rows-hold : T (hold rows)

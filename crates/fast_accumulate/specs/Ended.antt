@@ -3,6 +3,7 @@ use Prim.Native.Nat.{ℕ}
 use mathlib.Core.Path.{_≡_}
 use mathlib.Core.Bool.{Bool, true, false}
 use mathlib.Core.List.{List}
+use Rattle.page.specs.declared.Refusal.{Refusal}
 use Rattle.page.specs.declared.Verdict.the-variants.{Fault}
 use Rattle.decode.specs.Forms.{operationOf}
 use Rattle.machine.specs.declared.Core.{Core}
@@ -15,7 +16,7 @@ use Rattle.fast_accumulate.specs.declared.Ending.{Ending}
 
 -- the operation is a user's; where all accesses are open, the processor q and the memory w are those after it; else the fault is that of the first
 -- refusal, and the processor and the memory are as they were
-pub record Ended (p : Processor) (m g : List ℕ) (n : Instruction) (clear : Bool) (fault : ℕ) (q : Processor) (w : List ℕ) : Type 0 where
+pub record Ended (p : Processor) (m g : List ℕ) (n : Instruction) (clear : Bool) (fault : Refusal) (q : Processor) (w : List ℕ) : Type 0 where
   pub by-user : classOf (operationOf (n .form)) ≡ User
   pub when-clear : clear ≡ true → Finished p m g n q w
   pub when-refused : clear ≡ false → (verdict p m g n ≡ Fault fault) × (q ≡ p) × (w ≡ m)

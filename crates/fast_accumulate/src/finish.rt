@@ -10,6 +10,7 @@ ghost use Rattle.machine.specs.Step.{affected};
 ghost use Rattle.fast_accumulate.specs.Ended.{endedCore};
 use crate::Ending;
 use machine::Core;
+use page::Refusal;
 use status_word::with_cs;
 
 // It is done: IC and CS are set and PI bits added, as by any effect that does so, whatever the registers were.
@@ -19,15 +20,15 @@ pub fn done(core: Core, ic: u16, cs: u16, bits: u16) -> Ending
 {
     Ending {
         clear: true,
-        fault: 0,
+        fault: Refusal { ft: 0, mfs: 0 },
         ic,
         sw: with_cs(core.sw, cs),
         pi: core.pi | bits,
     }
 }
 
-// It is refused, with the FT bit b; the core is as it was.
-pub fn refused(core: Core, b: u16) -> Ending
+// It is refused; the core is as it was.
+pub fn refused(core: Core, b: Refusal) -> Ending
     ensures { λ r. ⌜ (r .clear ≡ false) × (r .fault ≡ b) × (endedCore core r ≡ core) ⌝ }
 {
     Ending {

@@ -5,10 +5,12 @@ pub mod finish;
 pub mod operand;
 pub mod single;
 
-// IC, SW and PI after an operation, where its accesses were clear; else as they were, and the FT bit of the first refusal.
+use page::Refusal;
+
+// IC, SW and PI after an operation, where its accesses were clear; else as they were, and the first refusal.
 pub struct Ending {
     pub clear: bool,
-    pub fault: u16,
+    pub fault: Refusal,
     pub ic: u16,
     pub sw: u16,
     pub pi: u16,

@@ -136,7 +136,7 @@ answerOf b x = admission b (length (x .memory)) (length (x .pages)) (length (x .
 
 -- the words of kind 4, and the core with others
 unfoldable pub controlOf : Core → List ℕ
-controlOf c = c .ic ∷ c .sw ∷ c .mk ∷ c .pi ∷ c .ft ∷ []
+controlOf c = c .ic ∷ c .sw ∷ c .mk ∷ c .pi ∷ c .faults .ft ∷ []
 
 unfoldable pub withControl : Core → List ℕ → Core
 withControl c ws = withFt (withPi (withMk (withSw (withIc c (getD ws 0 0)) (getD ws 1 0)) (getD ws 2 0)) (getD ws 3 0)) (getD ws 4 0)

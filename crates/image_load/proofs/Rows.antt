@@ -19,7 +19,7 @@ abbrev used : State
 used =
     record {
       regs = replicate 16 1;
-      core = record { ic = 2; sw = 3; mk = 4; pi = 5; ft = 6; enabled = true; hold = true };
+      core = record { ic = 2; sw = 3; mk = 4; pi = 5; faults = record { ft = 6; mfs = 7 }; enabled = true; hold = true };
       clock = record { ta = 7; tb = 8; rema = 5; remb = 6; taon = false; tbon = false; count = 9 };
     }
 
@@ -76,7 +76,7 @@ right (refuses memory pages ports b n) =
 
 -- the state after reset, but for the first sixteen registers given and IC, SW, MK, PI, FT
 abbrev fresh : List ℕ → List ℕ → List ℕ
-fresh regs control = regs ++ (control ++ (0 ∷ 0 ∷ 0 ∷ 0 ∷ 0 ∷ 0 ∷ 1 ∷ 1 ∷ 0 ∷ []))
+fresh regs control = regs ++ (control ++ (0 ∷ 0 ∷ 0 ∷ 0 ∷ 0 ∷ 0 ∷ 0 ∷ 1 ∷ 1 ∷ 0 ∷ []))
 
 abbrev clear : List ℕ
 clear = fresh (replicate 16 0) (replicate 5 0)

@@ -15,6 +15,7 @@ use image::table::count;
 use image::table::entry_at;
 use image::table::word_at;
 use machine::Core;
+use machine::Faults;
 use machine::State;
 use reset::reset;
 
@@ -53,19 +54,23 @@ fn write_registers(s: State, start: usize, image: &[u8], at: usize, n: usize) ->
     t
 }
 
-// The same for IC, SW, MK, PI and FT of a core.
+// The same for IC, SW, MK, PI and FT of a core; the rest stays.
 fn write_control(c: Core, start: usize, image: &[u8], at: usize, n: usize) -> Core
     requires { ⌜ (start + n ≤ 5) × (at + 2 * n ≤ length (now image)) ⌝ }
     ensures { λ r. ⌜ r ≡ withControl c (sets (controlOf c) start (wordsFrom (now (image .entry)) at n)) ⌝ }
 {
-    let mut words = [c.ic, c.sw, c.mk, c.pi, c.ft];
+    let mut words = [c.ic, c.sw, c.mk, c.pi, c.faults.ft];
     write_words(&mut words, start, image, at, n);
+    let faults = Faults {
+        ft: words[4],
+        mfs: c.faults.mfs,
+    };
     let mut d = c;
     d.ic = words[0];
     d.sw = words[1];
     d.mk = words[2];
     d.pi = words[3];
-    d.ft = words[4];
+    d.faults = faults;
     d
 }
 

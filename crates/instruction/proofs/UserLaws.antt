@@ -9,6 +9,7 @@ use lib.ListN.{length, getD}
 use borrow.Author.Tests.{leb-true, eqb-true}
 use Rattle.choice.specs.Select.{select}
 use Rattle.choice.proofs.TestLaws as tests
+use Rattle.page.specs.declared.Refusal.{Refusal}
 use Rattle.page.specs.declared.Access.the-variants.{Fetch}
 use Rattle.page.specs.declared.Place.{Place}
 use Rattle.page.specs.declared.Place.the-variants.{At, Refused}
@@ -74,11 +75,11 @@ module _ (p : Processor) (m g : List ℕ) (key group : ℕ) (d : key ≡ keyOf (
   timing-at a h = rw (← d, ← e, ← i, h) refl
 
   -- it was refused
-  pub timing-refused : (b : ℕ) → q ≡ Refused b → timing (p .core) (view (p .core) m g) false ≡ 256
+  pub timing-refused : (b : Refusal) → q ≡ Refused b → timing (p .core) (view (p .core) m g) false ≡ 256
   unfolding timing timedBy gotAt
   timing-refused b h = rw (← d, ← e, ← i, h) refl
 
-  pub prepared-refused : (b : ℕ) → q ≡ Refused b → prepared mil1750 p (view (p .core) m g) ≡ Denied b (wrapped (p .core .ic + 1))
+  pub prepared-refused : (b : Refusal) → q ≡ Refused b → prepared mil1750 p (view (p .core) m g) ≡ Denied b (wrapped (p .core .ic + 1))
   unfolding prepared fetched gotAt mil1750 advanced
   prepared-refused b h = rw (← d, ← e, ← i, h) refl
 

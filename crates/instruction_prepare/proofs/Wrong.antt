@@ -25,10 +25,10 @@ s = stateAt (tableOf (λ k. 100 + k) 0 16) 1 0
 abbrev memory : List ℕ
 memory = 0 ∷ 0x8012 ∷ 5 ∷ 0 ∷ []
 
--- an instruction's form, words and address; the FT bit of a refusal and the IC after it
+-- an instruction's form, words and address; a refusal and the IC after it
 abbrev shown : Prepared → List ℕ
 shown (Ready n) = n .form ∷ n .first ∷ n .second ∷ n .address ∷ []
-shown (Denied b a) = b ∷ a ∷ []
+shown (Denied b a) = b .ft ∷ b .mfs ∷ a ∷ []
 
 pub rows : List Row
 unfolding words decoder machinery instructions

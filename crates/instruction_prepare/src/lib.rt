@@ -21,7 +21,8 @@ use machine::Prepared;
 use page::Access;
 use page::Got;
 use page::Place;
-use page::lookup::look_up;
+use page::Refusal;
+use page::lookup::refuse;
 use status_word::advance;
 use storage::read::read_word;
 
@@ -123,7 +124,7 @@ fn second_word(
         if next < memory.len() {
             return Got::Word(memory[next]);
         }
-        return Got::Missed(0x0080);
+        return Got::Missed(refuse(Access::Fetch, group, ic, 0x0080));
     }
     Got::Word(0)
 }
@@ -172,11 +173,11 @@ pub fn prepare(
 {
     let form = (number % 65536) as u16;
     if form == 0 {
-        return Prepared::Denied(0x0040, advance(core.ic, 1));
+        return Prepared::Denied(Refusal { ft: 0x0040, mfs: 0 }, advance(core.ic, 1));
     }
     let class = class_of(form % 256);
     if permit(class, key) {
         return extend(core, key, group, regs, memory, pages, form, w, at);
     }
-    Prepared::Denied(0x0020, advance(core.ic, 1))
+    Prepared::Denied(Refusal { ft: 0x0020, mfs: 0 }, advance(core.ic, 1))
 }

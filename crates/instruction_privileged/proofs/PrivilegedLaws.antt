@@ -4,6 +4,7 @@ use mathlib.Core.Path.{_≡_, refl, ap, subst}
 use mathlib.Core.Bool.{true}
 use mathlib.Core.List.{List, map}
 use Rattle.choice.proofs.TestLaws.{among-every}
+use Rattle.page.specs.declared.Refusal.{Refusal}
 use Rattle.page.specs.Spans.{wrapped}
 use Rattle.decode.specs.Forms.{lengthOf}
 use Rattle.machine.specs.declared.State.{State}
@@ -44,7 +45,7 @@ module _ (s : State) (m : List ℕ) (n : Instruction) (regs' g g' o o' : List �
   governed-done t h =
       rw (← e, h) (record { state-is = refl; memory-is = refl; pages-is = refl; ports-is = refl })
 
-  pub governed-refused : (b : ℕ) (r : Core) → v ≡ Refused b → Kept v (s .regs) regs' × Kept v g g' × Kept v o o'
+  pub governed-refused : (b : Refusal) (r : Core) → v ≡ Refused b → Kept v (s .regs) regs' × Kept v g g' × Kept v o o'
       → r ≡ faulted (s .core) b (wrapped (n .ic + lengthOf (n .form)))
       → Became (perform s m g o (supervised n q)) (withProcessor s (joined r regs')) m g' o'
   unfolding governed Kept supervised perform nextOf

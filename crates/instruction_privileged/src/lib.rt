@@ -83,8 +83,8 @@ fn call(core: Core, memory: &mut [u16], pages: &[u16], k: u16) -> Core
 {
     let v = call_vector(memory, pages, k);
     let ic = advance(core.ic, 1);
-    let refusal = link(core.mk, core.sw, ic, memory, pages, v.sw, v.link);
-    arrive(core, 5, v, refusal)
+    let stores = link(core.mk, core.sw, ic, memory, pages, v.sw, v.link);
+    arrive(core, 5, v, stores)
 }
 
 // BEX (5.30), with any registers and ports.

@@ -4,6 +4,7 @@ use mathlib.Core.Path.{_≡_, refl, sym, ap, _∙_}
 use mathlib.Core.Bool.{true, false}
 use mathlib.Core.List.{List}
 use lib.ListN.{length}
+use Rattle.page.specs.declared.Refusal.{Refusal}
 use Rattle.page.specs.declared.Access.the-variants.{Read, Write}
 use Rattle.page.specs.declared.Verdict.{Verdict}
 use Rattle.page.specs.declared.Verdict.the-variants.{Clear, Fault}
@@ -40,7 +41,7 @@ module _ (s : State) (m g o : List ℕ) (n : Instruction) (from to : Span) (v : 
   unfolding carried accessed mil1750
   carried-clear h = rw (agreed Clear h) refl
 
-  pub carried-fault : (b : ℕ) → v ≡ Fault b → fail b (wrapped (n .ic + lengthOf (n .form))) ≡ carried mil1750 s g o (view (s .core) m g) (Ready n)
+  pub carried-fault : (b : Refusal) → v ≡ Fault b → fail b (wrapped (n .ic + lengthOf (n .form))) ≡ carried mil1750 s g o (view (s .core) m g) (Ready n)
   unfolding carried accessed mil1750 nextOf
   carried-fault b h = rw (agreed (Fault b) h) refl
 
@@ -82,7 +83,7 @@ module _ (s : State) (m g o : List ℕ) (n : Instruction) (key group : ℕ) (to 
   unfolding accessed mil1750
   accessed-clear h = rw (on-stores Clear h) refl
 
-  pub accessed-fault : (b : ℕ) → v ≡ Fault b
+  pub accessed-fault : (b : Refusal) → v ≡ Fault b
       → fail b (wrapped (n .ic + lengthOf (n .form)))
       ≡ accessed mil1750 s g o (view (s .core) m g) n (checked (keyOf (s .core .sw)) (groupOf (s .core .sw)) g (length m) (writesOf (s .regs) n) Write)
   unfolding accessed nextOf mil1750
@@ -90,6 +91,6 @@ module _ (s : State) (m g o : List ℕ) (n : Instruction) (key group : ℕ) (to 
 
 -- ---- a fault
 
-pub failed : (s : State) (d : Core) (m m' g o : List ℕ) (b a : ℕ) → m' ≡ m → d ≡ faulted (s .core) b a → Became (perform s m g o (fail b a)) (withCore s d) m' g o
+pub failed : (s : State) (d : Core) (m m' g o : List ℕ) (b : Refusal) (a : ℕ) → m' ≡ m → d ≡ faulted (s .core) b a → Became (perform s m g o (fail b a)) (withCore s d) m' g o
 unfolding perform
 failed s d m m' g o b a e f = record { state-is = ap (withCore s) f; memory-is = e; pages-is = refl; ports-is = refl }

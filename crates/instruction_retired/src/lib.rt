@@ -7,6 +7,7 @@ ghost use Rattle.machine.specs.Step.{faulted};
 ghost use Rattle.instruction_retired.specs.Settled.{retiredWith};
 use clock::time::fault;
 use machine::Core;
+use page::Refusal;
 
 // The core after an instruction. Where it is settled, no other interrupt is to be chosen than before, by the same key and address state; it does not
 // have to be (`Lasting`). A timer command, with the first word of its instruction, is handed back undone: an instruction has no clock. 0 is none.
@@ -41,8 +42,8 @@ pub fn weighed(pi: u16, core: Core) -> Retired
     }
 }
 
-// A fault: its FT bit is b, and IC is left at a; PI has changed, so the choice of an interrupt is made again.
-pub fn deny(core: Core, b: u16, a: u16) -> Retired
+// A fault, and IC is left at a; PI has changed, so the choice of an interrupt is made again.
+pub fn deny(core: Core, b: Refusal, a: u16) -> Retired
     ensures { λ r. ⌜ r ≡ retiredWith false (faulted core b a) ⌝ }
 {
     unsettled(fault(core, b, a))

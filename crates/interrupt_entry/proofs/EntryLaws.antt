@@ -3,10 +3,10 @@ use Prim.Native.Nat.{ℕ, _+_, _-_, _%_, _≤_, _<_}
 use mathlib.Core.Path.{_≡_, refl, sym, ap, _∙_}
 use mathlib.Core.List.{List}
 use native.Mathlib.Omega.{arith}
-use lib.Bits.{bitOr}
 use lib.ListN.{length, set}
 use Rattle.page.specs.declared.Access.the-variants.{Write}
 use Rattle.page.specs.declared.Place.the-variants.{At}
+use Rattle.page.specs.declared.Verdict.{Verdict}
 use Rattle.page.specs.declared.Verdict.the-variants.{Clear}
 use Rattle.page.specs.Pages.{lookup}
 use Rattle.page.specs.Spans.{wrapped, putAt, andThen, passed, checkedFrom, checked, writtenFrom, written}
@@ -17,7 +17,7 @@ use Rattle.machine.specs.declared.Core.{Core}
 use Rattle.machine.specs.declared.Vector.{Vector}
 use Rattle.machine.specs.State.{groupOf, withCore}
 use Rattle.machine.specs.Machine.{Became}
-use Rattle.machine.specs.Entries.{oldWords, linked, linkStored, refusalOf, arrived}
+use Rattle.machine.specs.Entries.{oldWords, linked, linkStored, storedAfter, arrived}
 use Rattle.machine.specs.Step.{entered}
 
 -- the three words from a on; the last, at end, was found at p
@@ -64,11 +64,11 @@ module _ (m g : List ℕ) (group a end p : ℕ) (f : a < 65536) (ends : end ≡ 
 
 -- ---- an entry
 
-pub entered-by : (s : State) (c d : Core) (m m' g o : List ℕ) (n : ℕ) (v : Vector) (b : ℕ) → b ≡ refusalOf (linked m g v)
-    → m' ≡ linkStored c m g v (linked m g v) → d ≡ arrived c n v (bitOr (v .fault) b) → Became (entered s c m g o n v) (withCore s d) m' g o
+pub entered-by : (s : State) (c d : Core) (m m' g o : List ℕ) (n : ℕ) (v : Vector) (b : Verdict) → b ≡ linked m g v
+    → m' ≡ linkStored c m g v (linked m g v) → d ≡ arrived c n v (storedAfter (v .fault) b) → Became (entered s c m g o n v) (withCore s d) m' g o
 unfolding entered
 entered-by s c d m m' g o n v b e h f = record {
-  state-is = ap (withCore s) (f ∙ ap (λ (x : ℕ). arrived c n v (bitOr (v .fault) x)) e);
+  state-is = ap (withCore s) (f ∙ ap (λ (x : Verdict). arrived c n v (storedAfter (v .fault) x)) e);
   memory-is = h;
   pages-is = refl;
   ports-is = refl;

@@ -12,8 +12,9 @@ use Rattle.page.specs.Spans.{wrapped, gotAt, wordOf}
 use Rattle.page.proofs.NearLaws.{lookup-before}
 use Rattle.page.proofs.ReachLaws.{located-inside}
 use Rattle.machine.specs.declared.Vector.{Vector}
+use Rattle.machine.specs.Faults.{ftAlone}
 use Rattle.interrupt_vector.specs.declared.Found.the-variants.{All, NotAll}
-use Rattle.machine.specs.Entries.{faultOf, gotZero, vectorAt, vectorOf}
+use Rattle.machine.specs.Entries.{readAfter, gotZero, vectorAt, vectorOf}
 
 -- what a search found
 pub all-found : (v w u : Vector) → All w ≡ All v → u ≡ w → v ≡ u
@@ -58,8 +59,8 @@ module _ (m g : List ℕ) where
 
   -- the service pointer was found at p, and the last word, at end, at q
   pub vector-together : (n p end q : ℕ) → n < 16 → Found (33 + 2 * n) p → end ≡ (getD m p 0 + 2) % 65536 → 2 ≤ end % 4096 → Found end q
-      → vectorOf m g n ≡ record { link = getD m (p - 1) 0; mk = getD m (q - 2) 0; sw = getD m (q - 1) 0; ic = getD m q 0; fault = 0 }
-  unfolding vectorOf vectorAt wordOf faultOf wrapped
+      → vectorOf m g n ≡ record { link = getD m (p - 1) 0; mk = getD m (q - 2) 0; sw = getD m (q - 1) 0; ic = getD m q 0; fault = ftAlone 0 }
+  unfolding vectorOf vectorAt wordOf readAfter wrapped
   vector-together n p end q b e ends h l =
       let same : Found ((getD m p 0 + 2) % 65536) q = rw (← ends) l in
       let next : 32 + 2 * n + 1 ≡ 33 + 2 * n = omega arith in

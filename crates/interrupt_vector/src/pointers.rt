@@ -4,24 +4,26 @@ ghost use mathlib.Core.Path.{_≡_};
 ghost use Prim.Native.Nat.{_<_};
 ghost use lib.ListN.{length};
 ghost use Rattle.machine.specs.declared.Vector.{Vector};
-ghost use Rattle.machine.specs.Entries.{faultOf, gotZero, vectorAt, vectorOf, callOf};
+ghost use Rattle.machine.specs.Entries.{readAfter, gotZero, vectorAt, vectorOf, callOf};
 use crate::Found;
 use machine::Vector;
+use machine::fault::follow;
 use page::Access;
 use page::Got;
 use page::Place;
+use page::Refusal;
 use page::lookup::look_up;
 use std::num::wrapping_add_u16;
 use storage::read::read_word;
 use storage::read::word_of;
 
-// The FT bit of a word that was refused, or 0.
-fn fault_of(got: Got) -> u16
-    ensures { λ r. ⌜ r ≡ faultOf got ⌝ }
+// Earlier refusals, and that of a word where it was refused.
+fn gather(earlier: Refusal, got: Got) -> Refusal
+    ensures { λ r. ⌜ r ≡ readAfter earlier got ⌝ }
 {
     match got {
-        Got::Word(_) => 0,
-        Got::Missed(b) => b,
+        Got::Word(_) => earlier,
+        Got::Missed(b) => follow(earlier, b),
     }
 }
 
@@ -44,13 +46,13 @@ fn vector_each(memory: &[u16], pages: &[u16], a: u16, k: u16) -> Vector
     let mk = read_zero(memory, pages, base);
     let sw = read_zero(memory, pages, wrapping_add_u16(base, 1));
     let ic = read_zero(memory, pages, wrapping_add_u16(base, k));
-    let pointers = fault_of(link) | fault_of(service);
+    let pointers = gather(gather(Refusal { ft: 0, mfs: 0 }, link), service);
     Vector {
         link: word_of(link),
         mk: word_of(mk),
         sw: word_of(sw),
         ic: word_of(ic),
-        fault: pointers | fault_of(mk) | fault_of(sw) | fault_of(ic),
+        fault: gather(gather(gather(pointers, mk), sw), ic),
     }
 }
 
@@ -80,7 +82,7 @@ fn vector_found(memory: &[u16], pages: &[u16], n: u16) -> Found
                         mk,
                         sw,
                         ic,
-                        fault: 0,
+                        fault: Refusal { ft: 0, mfs: 0 },
                     })
                 }
                 Place::Refused(_) => Found::NotAll,

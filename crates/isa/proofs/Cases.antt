@@ -2,14 +2,14 @@
 -- Rows of one table that the checker computes; every part of the machine after the step is compared. Assumes nothing.
 use Prim.Native.Nat.{ℕ}
 use mathlib.Core.Bool.{Bool, true, false}
-use mathlib.Core.List.{List, [], _∷_}
+use mathlib.Core.List.{List, [], _∷_, map}
 use lib.Dec.{T}
-use lib.ListN.{replicate, set}
+use lib.ListN.{getD, replicate, set}
 use Rattle.choice.proofs.Rows.{allOf, equal}
 use Rattle.machine.specs.declared.State.{State}
 use Rattle.machine.specs.declared.Clock.{Clock}
 use Rattle.machine.specs.Machine.{Machine, machine}
-use Rattle.machine.specs.State.{withCore, withClock, withMk, withPi, withFt, withHold}
+use Rattle.machine.specs.State.{withCore, withClock, withMk, withPi, withFt, withMfs, withEnabled, withHold}
 use Rattle.machine.specs.Step.{step}
 use Rattle.machine.specs.Runs.{runOf, steps, afterRuns}
 use Rattle.machine.proofs.Opened.{machinery}
@@ -30,7 +30,8 @@ with [] l = l
 with (w ∷ ws) l = with ws (set l (w .0) (w .1))
 
 -- what is not 0 before the step in a memory of 8,192 words, in the page registers (beside their reset values) and in R0 to R15, and SW, PI and FT;
--- then what is not 0 in R0 to R15 after it, IC, SW, MK, PI, FT, the hold mark, and words of the memory, of which all others are as before
+-- then what is not 0 in R0 to R15 after it, IC, SW, MK, PI, FT, the hold mark, and words of the memory, of which all others are as before; the memory
+-- fault status, which is 0 before
 pub record Case : Type 0 where
   pub memory : Words
   pub pages : Words
@@ -46,10 +47,31 @@ pub record Case : Type 0 where
   pub ft' : ℕ
   pub hold' : Bool
   pub memory' : Words
+  pub mfs' : ℕ
 
 abbrev pub made : Words → Words → Words → ℕ → ℕ → ℕ → Words → ℕ → ℕ → ℕ → ℕ → ℕ → Bool → Words → Case
 made m g r s p f r' i' s' k' p' f' h' m' =
-    record { memory = m; pages = g; regs = r; sw = s; pi = p; ft = f; regs' = r'; ic' = i'; sw' = s'; mk' = k'; pi' = p'; ft' = f'; hold' = h'; memory' = m' }
+    record { memory = m; pages = g; regs = r; sw = s; pi = p; ft = f; regs' = r'; ic' = i'; sw' = s'; mk' = k'; pi' = p'; ft' = f'; hold' = h'; memory' = m'; mfs' = 0 }
+
+-- the same, with a memory fault status after it
+abbrev pub refusedAt : ℕ → Case → Case
+refusedAt f c = record {
+  memory = c .memory;
+  pages = c .pages;
+  regs = c .regs;
+  sw = c .sw;
+  pi = c .pi;
+  ft = c .ft;
+  regs' = c .regs';
+  ic' = c .ic';
+  sw' = c .sw';
+  mk' = c .mk';
+  pi' = c .pi';
+  ft' = c .ft';
+  hold' = c .hold';
+  memory' = c .memory';
+  mfs' = f;
+}
 
 unfoldable pub cases : List Case
 cases =
@@ -102,14 +124,14 @@ cases =
     made ((0x0, 0x4023) ∷ []) [] ((2, 0x0009) ∷ (3, 0x0002) ∷ (12, 0x0030) ∷ []) 0x0000 0x0000 0x0000
     ((2, 0x0009) ∷ (3, 0x0002) ∷ (12, 0x0030) ∷ []) 0x0001 0x0000 0x0000 0x0000 0x0000 false ((0x32, 0x0009) ∷ []) ∷
     -- a double store over a page's end is refused whole where the second page is write protected
-    made ((0x0, 0x9650) ∷ (0x1, 0x0FFF) ∷ []) ((257, 0x0801) ∷ []) ((5, 0x0001) ∷ (6, 0x0002) ∷ []) 0x0000 0x0000 0x0000
-    ((5, 0x0001) ∷ (6, 0x0002) ∷ []) 0x0002 0x0000 0x0000 0x4000 0x8000 false ((0xFFF, 0x0000) ∷ []) ∷
+    refusedAt 0x1000 (made ((0x0, 0x9650) ∷ (0x1, 0x0FFF) ∷ []) ((257, 0x0801) ∷ []) ((5, 0x0001) ∷ (6, 0x0002) ∷ []) 0x0000 0x0000 0x0000
+    ((5, 0x0001) ∷ (6, 0x0002) ∷ []) 0x0002 0x0000 0x0000 0x4000 0x8000 false ((0xFFF, 0x0000) ∷ [])) ∷
     -- a read-modify-write outside the memory and write protected: the read refuses first
-    made ((0x0, 0x5070) ∷ (0x1, 0x3000) ∷ []) ((259, 0x0805) ∷ []) [] 0x0000 0x0000 0x0000
-    [] 0x0002 0x0000 0x0000 0x4000 0x0080 false ((0x0, 0x5070) ∷ []) ∷
+    refusedAt 0x3000 (made ((0x0, 0x5070) ∷ (0x1, 0x3000) ∷ []) ((259, 0x0805) ∷ []) [] 0x0000 0x0000 0x0000
+    [] 0x0002 0x0000 0x0000 0x4000 0x0080 false ((0x0, 0x5070) ∷ [])) ∷
     -- JCI 0 reads its indirect word all the same
-    made ((0x0, 0x7100) ∷ (0x1, 0x9000) ∷ []) [] [] 0x0000 0x0000 0x0000
-    [] 0x0002 0x0000 0x0000 0x4000 0x0080 false ((0x0, 0x7100) ∷ []) ∷
+    refusedAt 0x9000 (made ((0x0, 0x7100) ∷ (0x1, 0x9000) ∷ []) [] [] 0x0000 0x0000 0x0000
+    [] 0x0002 0x0000 0x0000 0x4000 0x0080 false ((0x0, 0x7100) ∷ [])) ∷
     -- TSB tests, then sets
     made ((0x0, 0x5900) ∷ (0x1, 0x0030) ∷ []) [] [] 0x0000 0x0000 0x0000
     [] 0x0002 0x2000 0x0000 0x0000 0x0000 false ((0x30, 0x8000) ∷ []) ∷
@@ -143,9 +165,9 @@ cases =
 abbrev pub stateOf : Words → ℕ → ℕ → ℕ → ℕ → State
 stateOf regs ic sw pi ft = let s = stateAt (with regs (replicate 16 0)) ic sw in withCore s (withFt (withPi (s .core) pi) ft)
 
--- with MK and the hold mark
-abbrev pub masked : State → ℕ → Bool → State
-masked s mk hold = withCore s (withHold (withMk (s .core) mk) hold)
+-- with MK, the hold mark and the memory fault status
+abbrev pub masked : State → ℕ → Bool → ℕ → State
+masked s mk hold mfs = withCore s (withMfs (withHold (withMk (s .core) mk) hold) mfs)
 
 -- a state, and what was stored since the step began
 abbrev pub holding : Case → State → Words → Machine
@@ -155,7 +177,7 @@ holding c s stored = machine s (with stored (with (c .memory) (replicate 8192 0)
 unfoldable pub right : Case → Bool
 right c =
     let x = step mil1750 hundreds (holding c (stateOf (c .regs) 0 (c .sw) (c .pi) (c .ft)) []) in
-    sameMachine x (holding c (stepsOn 1 (masked (stateOf (c .regs') (c .ic') (c .sw') (c .pi') (c .ft')) (c .mk') (c .hold'))) (c .memory'))
+    sameMachine x (holding c (stepsOn 1 (masked (stateOf (c .regs') (c .ic') (c .sw') (c .pi') (c .ft')) (c .mk') (c .hold') (c .mfs'))) (c .memory'))
 
 pub cases-hold : T (allOf right cases)
 unfolding words floats decoder machinery instructions with cases right
@@ -228,7 +250,7 @@ fresh memory = from memory [] [] 0 0 0 (0, 0, true) (0, 0, true)
 
 -- IC, PI, FT, and each timer with its remainder
 abbrev pub shown : Machine → List ℕ
-shown x = let s = x .state in s .core .ic ∷ s .core .pi ∷ s .core .ft ∷ s .clock .ta ∷ s .clock .rema ∷ s .clock .tb ∷ s .clock .remb ∷ []
+shown x = let s = x .state in s .core .ic ∷ s .core .pi ∷ s .core .faults .ft ∷ s .clock .ta ∷ s .clock .rema ∷ s .clock .tb ∷ s .clock .remb ∷ []
 
 -- a machine, durations, a number of steps: what is shown after them
 pub record Lasted : Type 0 where
@@ -288,3 +310,72 @@ timed-steps-hold = tt
 pub halves-hold : T (equal (shown (afterRuns mil1750 (runOf 3 hundreds ∷ runOf 3 (replicate 257 50) ∷ []) (fresh []))) (6 ∷ 0 ∷ 0 ∷ 4 ∷ 50 ∷ 0 ∷ 450 ∷ []))
 unfolding words floats decoder machinery instructions with
 halves-hold = tt
+
+-- ---- where the memory fault was: steps in a memory of 16,384 words, pages 0 to 3
+
+-- words of the memory, of the page registers and of R0 to R15; IC and SW
+abbrev pub paged : Words → Words → Words → ℕ → ℕ → Machine
+paged memory pages regs ic sw = machine (stateOf regs ic sw 0 0) (with memory (replicate 16384 0)) (with pages resetPages) (replicate 1024 0)
+
+-- interrupt 4 pends, by its vector (linkage and service pointer); at 0200 the new MK, SW with address state 3, IC
+abbrev pub pending : ℕ → ℕ → Words → Machine
+pending link service pages =
+    let x = paged ((0x28, link) ∷ (0x29, service) ∷ (0x200, 0) ∷ (0x201, 3) ∷ (0x202, 0x300) ∷ []) pages [] 0 0 in
+    machine (withCore (x .state) (withEnabled (withMk (withPi (x .state .core) 0x0800) 0x0800) true)) (x .memory) (x .pages) (x .ports)
+
+-- IC, SW, PI, FT, the memory fault status, R5, and some words of the memory
+abbrev pub faultShown : Machine → List ℕ → List ℕ
+faultShown x places =
+    let c = x .state .core in
+    c .ic ∷ c .sw ∷ c .pi ∷ c .faults .ft ∷ c .faults .mfs ∷ getD (x .state .regs) 5 0 ∷ map (λ a. getD (x .memory) a 0) places
+
+-- a machine, a number of steps, addresses: what is shown after them
+pub record Fault : Type 0 where
+  pub start : Machine
+  pub count : ℕ
+  pub places : List ℕ
+  pub end : List ℕ
+
+abbrev pub fault : Machine → ℕ → List ℕ → List ℕ → Fault
+fault x n places r = record { start = x; count = n; places = places; end = r }
+
+-- L R1,C123 at 0 in address state 5, whose page C is outside the memory, then other words
+abbrev pub outside : Words → Words → Machine
+outside memory regs = paged ((0, 0x8010) ∷ (1, 0xC123) ∷ memory) [] regs 0 5
+
+unfoldable pub faults : List Fault
+faults =
+    -- a first fetch, an operand, a second word: each by its own register
+    fault (paged [] ((83, 0x0803) ∷ []) [] 0x3ABC 5) 1 [] (0x3ABD ∷ 5 ∷ 0x4000 ∷ 0x8000 ∷ 0x3015 ∷ 0 ∷ []) ∷
+    fault (outside [] []) 1 [] (2 ∷ 5 ∷ 0x4000 ∷ 0x0080 ∷ 0xC005 ∷ 0 ∷ []) ∷
+    fault (paged ((0x0FFF, 0x8010) ∷ []) ((1, 0x0004) ∷ []) [] 0x0FFF 0) 1 [] (0x1001 ∷ 0 ∷ 0x4000 ∷ 0x0080 ∷ 0x1010 ∷ 0 ∷ []) ∷
+    -- DST over the end of a page, refused by W and by the memory's end; of STM the first refusal; an indirect word
+    fault (paged ((0, 0x9610) ∷ (1, 0x0FFF) ∷ []) ((257, 0x0801) ∷ []) ((1, 7) ∷ (2, 8) ∷ []) 0 0) 1 (0x0FFF ∷ 0x1000 ∷ []) (2 ∷ 0 ∷ 0x4000 ∷ 0x8000 ∷ 0x1000 ∷ 0 ∷ 0 ∷ 0 ∷ []) ∷
+    fault (paged ((0, 0x9610) ∷ (1, 0x3FFF) ∷ []) [] ((1, 7) ∷ []) 0 0) 1 (0x3FFF ∷ []) (2 ∷ 0 ∷ 0x4000 ∷ 0x0080 ∷ 0x4000 ∷ 0 ∷ 0 ∷ []) ∷
+    fault (paged ((0, 0x9910) ∷ (1, 0x4FFF) ∷ []) ((261, 0x0805) ∷ []) [] 0 0) 1 [] (2 ∷ 0 ∷ 0x4000 ∷ 0x0080 ∷ 0x4000 ∷ 0 ∷ []) ∷
+    fault (paged ((0, 0x7100) ∷ (1, 0x4000) ∷ []) [] [] 0 0) 1 [] (2 ∷ 0 ∷ 0x4000 ∷ 0x0080 ∷ 0x4000 ∷ 0 ∷ []) ∷
+    -- an illegal word, RCFR and RPI of 1 leave the status; CLIR clears it; RMFS reads it and leaves CS
+    fault (outside ((2, 0xFE00) ∷ []) []) 2 [] (3 ∷ 5 ∷ 0x4000 ∷ 0x00C0 ∷ 0xC005 ∷ 0 ∷ []) ∷
+    fault (outside ((2, 0x4850) ∷ (3, 0xA00F) ∷ []) []) 2 [] (4 ∷ 5 ∷ 0 ∷ 0 ∷ 0xC005 ∷ 0x0080 ∷ []) ∷
+    fault (outside ((2, 0x4850) ∷ (3, 0x2004) ∷ []) ((5, 1) ∷ [])) 2 [] (4 ∷ 5 ∷ 0 ∷ 0 ∷ 0xC005 ∷ 1 ∷ []) ∷
+    fault (outside ((2, 0x4850) ∷ (3, 0x2001) ∷ []) ((5, 1) ∷ [])) 2 [] (4 ∷ 5 ∷ 0 ∷ 0 ∷ 0 ∷ 1 ∷ []) ∷
+    fault (outside ((2, 0x4850) ∷ (3, 0xA00D) ∷ []) []) 2 [] (4 ∷ 5 ∷ 0x4000 ∷ 0x0080 ∷ 0xC005 ∷ 0xC005 ∷ []) ∷
+    -- entries: the stores, by address state 3; MK, SW and IC; both, by address state 0 as the new SW is refused
+    fault (pending 0x5000 0x0200 []) 1 [] (0x0300 ∷ 3 ∷ 0x4000 ∷ 0x0080 ∷ 0x5003 ∷ 0 ∷ []) ∷
+    fault (pending 0x0100 0x6000 []) 1 (0x0100 ∷ 0x0101 ∷ 0x0102 ∷ []) (0 ∷ 0 ∷ 0x4000 ∷ 0x0080 ∷ 0x6000 ∷ 0 ∷ 0x0800 ∷ 0 ∷ 0 ∷ []) ∷
+    fault (pending 0x5000 0x6000 []) 1 [] (0 ∷ 0 ∷ 0x4000 ∷ 0x0080 ∷ 0x5000 ∷ 0 ∷ []) ∷
+    -- SW and IC past the memory's end; MK at FFFF alone
+    fault (pending 0x0100 0x3FFF []) 1 (0x0100 ∷ []) (0 ∷ 0 ∷ 0x4000 ∷ 0x0080 ∷ 0x4000 ∷ 0 ∷ 0x0800 ∷ []) ∷
+    fault (pending 0x0100 0xFFFF []) 1 (0x0100 ∷ []) (0 ∷ 0 ∷ 0x4000 ∷ 0x0080 ∷ 0xF000 ∷ 0 ∷ 0x0800 ∷ []) ∷
+    -- the second of the stores
+    fault (pending 0x0FFF 0x0200 ((305, 0x0801) ∷ [])) 1 (0x0FFF ∷ []) (0x0300 ∷ 3 ∷ 0x4000 ∷ 0x8000 ∷ 0x1003 ∷ 0 ∷ 0 ∷ []) ∷
+    -- of two faults in a row the second
+    fault (paged ((0x3FFE, 0x8010) ∷ (0x3FFF, 0xC123) ∷ []) ((84, 0x0804) ∷ []) [] 0x3FFE 5) 2 [] (0x4001 ∷ 5 ∷ 0x4000 ∷ 0x8080 ∷ 0x4015 ∷ 0 ∷ []) ∷
+    []
+
+unfoldable pub faultRight : Fault → Bool
+faultRight r = equal (faultShown (steps mil1750 hundreds (r .count) (r .start)) (r .places)) (r .end)
+
+pub faults-hold : T (allOf faultRight faults)
+unfolding words floats decoder machinery instructions with faults faultRight
+faults-hold = tt

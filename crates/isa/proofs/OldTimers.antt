@@ -17,6 +17,7 @@ use Rattle.machine.specs.declared.Instruction.{Instruction}
 use Rattle.machine.specs.declared.Prepared.the-variants.{Ready}
 use Rattle.machine.specs.declared.Class.the-variants.{Supervisor}
 use Rattle.machine.specs.State.{processor, withCore, withTa, withTaOn, withTbOn, withRemA}
+use Rattle.machine.specs.Faults.{ftAlone}
 use Rattle.machine.specs.Machine.{Machine, Supervised, done, refused}
 use Rattle.machine.specs.Instructions.{view, prepared}
 use Rattle.machine.specs.Entries.{chosen}
@@ -70,8 +71,8 @@ module _ (s : State) (steady : Steady (s .clock)) where
   core-left : (g o : List ℕ) (n : Instruction) (ra command : ℕ) → OnDone (Leaving (s .clock)) (coreCommand s g o n ra command)
   unfolding coreCommand becomes withRa faultsRead
   core-left g o n ra command =
-      selected (OnDone (Leaving (s .clock))) command (coreRules s g o n ra) (refused (weight 5))
-      (λ e. left-same (s .clock), (λ e. left-same (s .clock), (λ e. left-same (s .clock), (λ e. left-same (s .clock), (λ e. left-same (s .clock), (λ e. left-same (s .clock), (λ e. left-same (s .clock), (λ e. left-same (s .clock), (λ e. left-same (s .clock), (λ e. left-same (s .clock), (λ e. left-same (s .clock), tt))))))))))) tt
+      selected (OnDone (Leaving (s .clock))) command (coreRules s g o n ra) (refused (ftAlone (weight 5)))
+      (λ e. left-same (s .clock), (λ e. left-same (s .clock), (λ e. left-same (s .clock), (λ e. left-same (s .clock), (λ e. left-same (s .clock), (λ e. left-same (s .clock), (λ e. left-same (s .clock), (λ e. left-same (s .clock), (λ e. left-same (s .clock), (λ e. left-same (s .clock), (λ e. left-same (s .clock), (λ e. left-same (s .clock), tt)))))))))))) tt
 
   state-left : (g o : List ℕ) (n : Instruction) (ra command : ℕ) → ofTimerB command ≡ false → OnDone (Leaving (s .clock)) (stateCommand s g o n ra command)
   unfolding stateCommand becomes

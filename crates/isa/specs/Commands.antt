@@ -12,7 +12,8 @@ use Rattle.machine.specs.declared.State.{State}
 use Rattle.machine.specs.declared.Core.{Core}
 use Rattle.machine.specs.declared.Instruction.{Instruction}
 use Rattle.bits.specs.Bits.{weight, resetBit}
-use Rattle.machine.specs.State.{withRegs, withCore, withClock, withIc, withSw, withMk, withPi, withFt, withEnabled, withHold, withTa, withTb, withRemA, withRemB, withTaOn, withTbOn}
+use Rattle.machine.specs.State.{withRegs, withCore, withClock, withIc, withSw, withMk, withPi, withFt, withMfs, withEnabled, withHold, withTa, withTb, withRemA, withRemB, withTaOn, withTbOn}
+use Rattle.machine.specs.Faults.{ftAlone}
 use Rattle.machine.specs.Machine.{Supervised, done, refused, nextOf}
 use Rattle.isa.specs.Fields.{fieldA, register, withRegister}
 
@@ -30,7 +31,7 @@ withRa s n x = withRegs s (withRegister (s .regs) (fieldA (n .first)) x)
 
 -- RCFR: RA gets FT; FT and PI bit 1 are cleared
 unfoldable pub faultsRead : State → Instruction → State
-faultsRead s n = withCore (withRa s n (s .core .ft)) (withFt (withPi (s .core) (resetBit (s .core .pi) 1)) 0)
+faultsRead s n = withCore (withRa s n (s .core .faults .ft)) (withFt (withPi (s .core) (resetBit (s .core .pi) 1)) 0)
 
 -- a command is done: page registers g, ports o and the state t are the machine's afterwards
 unfoldable pub becomes : List ℕ → List ℕ → State → Supervised
@@ -58,13 +59,14 @@ timerCommand s k command = select command timerRules (λ t j. t) s k
 unfoldable pub isTimer : ℕ → Bool
 isTimer command = among command (map (λ r. r .0) timerRules)
 
--- the other commands on the state alone, from the contents of RA, for the state at the next instruction: SMK CLIR ENBL DSBL RPI SPI WSW, RMK RPIR RSW RCFR
+-- the other commands on the state alone, from the contents of RA, for the state at the next instruction: SMK CLIR ENBL DSBL RPI SPI WSW, RMK RPIR RMFS RSW RCFR.
+-- CLIR clears the memory fault status too, and RCFR does not (change request 4)
 abbrev pub coreRules : State → List ℕ → List ℕ → Instruction → ℕ → List (ℕ × Supervised)
 coreRules s g o n ra =
     let c = s .core in
     let core : Core → Supervised = λ d. becomes g o (withCore s d) in
     (0x2000, core (withMk c ra)) ∷
-    (0x2001, core (withFt (withPi c 0) 0)) ∷
+    (0x2001, core (withMfs (withFt (withPi c 0) 0) 0)) ∷
     (0x2002, core (withHold (withEnabled c true) true)) ∷
     (0x2003, core (withEnabled c false)) ∷
     (0x2004, core (pendingReset c (ra % 16))) ∷
@@ -72,13 +74,14 @@ coreRules s g o n ra =
     (0x200E, core (withSw c ra)) ∷
     (0xA000, becomes g o (withRa s n (c .mk))) ∷
     (0xA004, becomes g o (withRa s n (c .pi))) ∷
+    (0xA00D, becomes g o (withRa s n (c .faults .mfs))) ∷
     (0xA00E, becomes g o (withRa s n (c .sw))) ∷
     (0xA00F, becomes g o (faultsRead s n)) ∷
     []
 
 -- any other is an illegal command, FT bit 5
 unfoldable pub coreCommand : State → List ℕ → List ℕ → Instruction → ℕ → ℕ → Supervised
-coreCommand s g o n ra command = select command (coreRules s g o n ra) (refused (weight 5))
+coreCommand s g o n ra command = select command (coreRules s g o n ra) (refused (ftAlone (weight 5)))
 
 -- the commands on the state alone: those of timers and the others
 unfoldable pub stateCommand : State → List ℕ → List ℕ → Instruction → ℕ → ℕ → Supervised

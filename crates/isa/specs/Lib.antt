@@ -1,4 +1,4 @@
--- The definitions of the MIL-STD-1750A's instructions.
+-- The definitions of the MIL-STD-1750A's instructions and commands, and which steps leave timer B, for the old rule of the timers.
 pub mod Fields
 pub mod Addressing
 pub mod Accesses

@@ -1,4 +1,4 @@
--- The laws of the processor, property 3 with machines that it compares, and rows of known cases.
+-- The laws of the processor, of durations and of the old rule of the timers, property 3 with machines that it compares, and rows of known cases.
 pub mod MachineLaws
 pub mod InterruptLaws
 pub mod SameLaws

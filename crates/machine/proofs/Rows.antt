@@ -15,6 +15,7 @@ use Rattle.machine.specs.declared.Class.{Class}
 use Rattle.machine.specs.declared.Class.the-variants.{User, Supervisor, Executive}
 use Rattle.bits.specs.Bits.{weight}
 use Rattle.machine.specs.State.{Processor, resetState, withCore, withClock, withIc, withPi, withHold}
+use Rattle.machine.specs.Faults.{ftAlone}
 use Rattle.machine.specs.Machine.{Machine, machine, Isa, Effect, Supervised, done, refused, nextOf, spanFrom}
 use Rattle.decode.specs.Forms.{operationOf}
 use Rattle.machine.specs.Entries.{chosen}
@@ -44,19 +45,19 @@ executeOf p i ws = record { regs = set (p .regs) 0 (getD ws 0 0); ic = nextOf i;
 abbrev superviseOf : State → List ℕ → List ℕ → Instruction → List ℕ → Supervised
 superviseOf s g o i ws =
     cond (ltb (i .address) 0x8000) (done (record { state = withCore s (withHold (withIc (s .core) (nextOf i)) true); pages = set g 0 (i .address); ports = set o 0 (i .address) }))
-    (refused (weight 5))
+    (refused (ftAlone (weight 5)))
 
 abbrev small : Isa
 small = record { decode = λ w. w; class = classOf; base = λ mode p w x. x; reads = readsOf; writes = writesOf; execute = executeOf; supervise = superviseOf }
 
 -- ---- machines
 
--- IC, SW, MK, PI, enabled, hold; FT is 1, R15 is 15, timer A at 30 runs with the remainder 60, timer B at 40 with 50 does not, and the counter is 9
+-- IC, SW, MK, PI, enabled, hold; FT is 1, the memory fault status 0770, R15 is 15, timer A at 30 runs with the remainder 60, timer B at 40 with 50 does not, and the counter is 9
 abbrev state : ℕ → ℕ → ℕ → ℕ → Bool → Bool → State
 state ic sw mk pi enabled hold =
     record {
       regs = set sixteenZeros 15 15;
-      core = record { ic = ic; sw = sw; mk = mk; pi = pi; ft = 1; enabled = enabled; hold = hold };
+      core = record { ic = ic; sw = sw; mk = mk; pi = pi; faults = record { ft = 1; mfs = 0x0770 }; enabled = enabled; hold = hold };
       clock = record { ta = 30; tb = 40; rema = 60; remb = 50; taon = true; tbon = false; count = 9 };
     }
 
@@ -86,7 +87,7 @@ filled n d ((a, w) ∷ ws) = set (filled n d ws) a w
 abbrev wordsAt : ℕ → List (ℕ × ℕ) → List ℕ
 wordsAt n ws = filled n 0 ws
 
--- IC, SW, MK, PI, FT, enabled, hold, R0, page register 0, port 0, and the words at some addresses
+-- IC, SW, MK, PI, FT, MFS, enabled, hold, R0, page register 0, port 0, and the words at some addresses
 abbrev shown : List ℕ → Machine → List ℕ
 shown places x =
     coreParts (x .state .core) ++ (getD (x .state .regs) 0 0 ∷ getD (x .pages) 0 0 ∷ getD (x .ports) 0 0 ∷ map (λ a. getD (x .memory) a 0) places)
@@ -199,26 +200,26 @@ link = 50 ∷ 51 ∷ 52 ∷ []
 pub entries : List Row
 entries =
     -- interrupt 0 under key 1: with key 0 no lock below F refuses; PI bit 0 alone is cleared, interrupts are disabled
-    stepping (state 5 0xA010 0x0ACE 0xA000 true false) vector0 ((256, 0x3000) ∷ (288, 0x4000) ∷ []) link (0x3333 ∷ 2 ∷ 0x1111 ∷ 0x2000 ∷ 1 ∷ 0 ∷ 0 ∷ 0 ∷ 0xF000 ∷ 0 ∷ 0x0ACE ∷ 0xA010 ∷ 5 ∷ [])
+    stepping (state 5 0xA010 0x0ACE 0xA000 true false) vector0 ((256, 0x3000) ∷ (288, 0x4000) ∷ []) link (0x3333 ∷ 2 ∷ 0x1111 ∷ 0x2000 ∷ 1 ∷ 0x0770 ∷ 0 ∷ 0 ∷ 0 ∷ 0xF000 ∷ 0 ∷ 0x0ACE ∷ 0xA010 ∷ 5 ∷ [])
     -- the hold mark: an instruction runs, here an illegal one, which uses the mark up
-    ∷ stepping (state 5 0xA010 0x0ACE 0xA000 true true) vector0 [] link (6 ∷ 0xA010 ∷ 0x0ACE ∷ 0xE000 ∷ 0x0041 ∷ 1 ∷ 0 ∷ 0 ∷ 0xF000 ∷ 0 ∷ 0 ∷ 0 ∷ 0 ∷ [])
+    ∷ stepping (state 5 0xA010 0x0ACE 0xA000 true true) vector0 [] link (6 ∷ 0xA010 ∷ 0x0ACE ∷ 0xE000 ∷ 0x0041 ∷ 0x0770 ∷ 1 ∷ 0 ∷ 0 ∷ 0xF000 ∷ 0 ∷ 0 ∷ 0 ∷ 0 ∷ [])
     -- the stores go by address state 2 of the new SW: its page 0 has W 1; the entry goes on
-    ∷ stepping (state 5 0xA010 0x0ACE 0xA000 true false) vector0 ((288, 0x0800) ∷ []) link (0x3333 ∷ 2 ∷ 0x1111 ∷ 0x6000 ∷ 0x8001 ∷ 0 ∷ 0 ∷ 0 ∷ 0xF000 ∷ 0 ∷ 0 ∷ 0 ∷ 0 ∷ [])
+    ∷ stepping (state 5 0xA010 0x0ACE 0xA000 true false) vector0 ((288, 0x0800) ∷ []) link (0x3333 ∷ 2 ∷ 0x1111 ∷ 0x6000 ∷ 0x8001 ∷ 0x0002 ∷ 0 ∷ 0 ∷ 0 ∷ 0xF000 ∷ 0 ∷ 0 ∷ 0 ∷ 0 ∷ [])
     -- and not by address state 0, whose page 0 has W 1
-    ∷ stepping (state 5 0xA010 0x0ACE 0xA000 true false) vector0 ((256, 0x0800) ∷ []) link (0x3333 ∷ 2 ∷ 0x1111 ∷ 0x2000 ∷ 1 ∷ 0 ∷ 0 ∷ 0 ∷ 0xF000 ∷ 0 ∷ 0x0ACE ∷ 0xA010 ∷ 5 ∷ [])
+    ∷ stepping (state 5 0xA010 0x0ACE 0xA000 true false) vector0 ((256, 0x0800) ∷ []) link (0x3333 ∷ 2 ∷ 0x1111 ∷ 0x2000 ∷ 1 ∷ 0x0770 ∷ 0 ∷ 0 ∷ 0 ∷ 0xF000 ∷ 0 ∷ 0x0ACE ∷ 0xA010 ∷ 5 ∷ [])
     -- linkage pointer FFFE: the third word, at 0000, has W 1, and the first two are not stored either
     ∷ stepping (state 5 0xA010 0x0ACE 0xA000 true false) (wordsAt 4096 ((32, 0xFFFE) ∷ (33, 53) ∷ (53, 0x1111) ∷ (54, 2) ∷ (55, 0x3333) ∷ [])) ((288, 0x0800) ∷ []) (4094 ∷ 4095 ∷ 0 ∷ [])
-    (0x3333 ∷ 2 ∷ 0x1111 ∷ 0x6000 ∷ 0x8001 ∷ 0 ∷ 0 ∷ 0 ∷ 0xF000 ∷ 0 ∷ 0 ∷ 0 ∷ 0 ∷ [])
+    (0x3333 ∷ 2 ∷ 0x1111 ∷ 0x6000 ∷ 0x8001 ∷ 0x0002 ∷ 0 ∷ 0 ∷ 0 ∷ 0xF000 ∷ 0 ∷ 0 ∷ 0 ∷ 0 ∷ [])
     -- service pointer FFFF: MK at FFFF, SW at 0000, IC at 0001
     ∷ stepping (state 5 0xA010 0x0ACE 0xA000 true false) (wordsAt 4096 ((32, 50) ∷ (33, 0xFFFF) ∷ (4095, 0x1111) ∷ (0, 2) ∷ (1, 0x3333) ∷ [])) [] link
-    (0x3333 ∷ 2 ∷ 0x1111 ∷ 0x2000 ∷ 1 ∷ 0 ∷ 0 ∷ 0 ∷ 0xF000 ∷ 0 ∷ 0x0ACE ∷ 0xA010 ∷ 5 ∷ [])
+    (0x3333 ∷ 2 ∷ 0x1111 ∷ 0x2000 ∷ 1 ∷ 0x0770 ∷ 0 ∷ 0 ∷ 0 ∷ 0xF000 ∷ 0 ∷ 0x0ACE ∷ 0xA010 ∷ 5 ∷ [])
     -- interrupt 1, service pointer in a page beyond the memory: MK, SW and IC count as 0, and 1 pends again
-    ∷ stepping (state 7 0x0035 0x4000 0x4000 false false) (wordsAt 64 ((34, 50) ∷ (35, 0x1000) ∷ [])) ((257, 1) ∷ []) link (0 ∷ 0 ∷ 0 ∷ 0x4000 ∷ 0x0081 ∷ 0 ∷ 0 ∷ 0 ∷ 0xF000 ∷ 0 ∷ 0x4000 ∷ 0x0035 ∷ 7 ∷ [])
+    ∷ stepping (state 7 0x0035 0x4000 0x4000 false false) (wordsAt 64 ((34, 50) ∷ (35, 0x1000) ∷ [])) ((257, 1) ∷ []) link (0 ∷ 0 ∷ 0 ∷ 0x4000 ∷ 0x0081 ∷ 0x1000 ∷ 0 ∷ 0 ∷ 0 ∷ 0xF000 ∷ 0 ∷ 0x4000 ∷ 0x0035 ∷ 7 ∷ [])
     -- every word refused, the stores too
-    ∷ stepping (state 5 0xA010 0x0ACE 0xA000 true false) vector0 ((256, 0x00FF) ∷ []) link (0 ∷ 0 ∷ 0 ∷ 0x6000 ∷ 0x0081 ∷ 0 ∷ 0 ∷ 0 ∷ 0xF000 ∷ 0 ∷ 0 ∷ 0 ∷ 0 ∷ [])
+    ∷ stepping (state 5 0xA010 0x0ACE 0xA000 true false) vector0 ((256, 0x00FF) ∷ []) link (0 ∷ 0 ∷ 0 ∷ 0x6000 ∷ 0x0081 ∷ 0x0000 ∷ 0 ∷ 0 ∷ 0 ∷ 0xF000 ∷ 0 ∷ 0 ∷ 0 ∷ 0 ∷ [])
     -- BEX 14 at 5, past the hold mark: IC from the word 2 + 14 after the service pointer, the IC stored is 6, PI bit 5 is clear
     ∷ stepping (state 5 0xA010 0x0ACE 0x2400 true true) (wordsAt 128 ((5, 0x101E) ∷ (42, 50) ∷ (43, 60) ∷ (60, 0x1111) ∷ (61, 2) ∷ (76, 0x3333) ∷ [])) [] link
-    (0x3333 ∷ 2 ∷ 0x1111 ∷ 0x2000 ∷ 1 ∷ 0 ∷ 0 ∷ 0 ∷ 0xF000 ∷ 0 ∷ 0x0ACE ∷ 0xA010 ∷ 6 ∷ [])
+    (0x3333 ∷ 2 ∷ 0x1111 ∷ 0x2000 ∷ 1 ∷ 0x0770 ∷ 0 ∷ 0 ∷ 0 ∷ 0xF000 ∷ 0 ∷ 0x0ACE ∷ 0xA010 ∷ 6 ∷ [])
     ∷ []
 
 -- a two-word instruction at 5, or at FFFF, and the word at 40
@@ -231,28 +232,28 @@ atEnd w = wordsAt 4096 ((4095, w) ∷ [])
 pub instructions : List Row
 instructions =
     -- the first fetch is refused: IC + 1
-    stepping (state 5 0 0 0 false false) (at5 0x2002 40 7) ((0, 0xF800) ∷ []) [] (6 ∷ 0 ∷ 0 ∷ 0x4000 ∷ 0x8001 ∷ 0 ∷ 0 ∷ 0 ∷ 0xF800 ∷ 0 ∷ [])
+    stepping (state 5 0 0 0 false false) (at5 0x2002 40 7) ((0, 0xF800) ∷ []) [] (6 ∷ 0 ∷ 0 ∷ 0x4000 ∷ 0x8001 ∷ 0x0010 ∷ 0 ∷ 0 ∷ 0 ∷ 0xF800 ∷ 0 ∷ [])
     -- privileged, before the second fetch, which page 0 would refuse: IC + 1, modulo 65,536
-    ∷ stepping (state 0xFFFF 0x0020 0 0 false false) (atEnd 0x2001) ((0, 0xF800) ∷ []) [] (0 ∷ 0x0020 ∷ 0 ∷ 0x4000 ∷ 0x0021 ∷ 0 ∷ 0 ∷ 0 ∷ 0xF800 ∷ 0 ∷ [])
+    ∷ stepping (state 0xFFFF 0x0020 0 0 false false) (atEnd 0x2001) ((0, 0xF800) ∷ []) [] (0 ∷ 0x0020 ∷ 0 ∷ 0x4000 ∷ 0x0021 ∷ 0x0770 ∷ 0 ∷ 0 ∷ 0 ∷ 0xF800 ∷ 0 ∷ [])
     -- the second fetch is refused: IC + 2
-    ∷ stepping (state 0xFFFF 0x0020 0 0 false false) (atEnd 0x2002) ((0, 0xF800) ∷ []) [] (1 ∷ 0x0020 ∷ 0 ∷ 0x4000 ∷ 0x8001 ∷ 0 ∷ 0 ∷ 0 ∷ 0xF800 ∷ 0 ∷ [])
+    ∷ stepping (state 0xFFFF 0x0020 0 0 false false) (atEnd 0x2002) ((0, 0xF800) ∷ []) [] (1 ∷ 0x0020 ∷ 0 ∷ 0x4000 ∷ 0x8001 ∷ 0x0010 ∷ 0 ∷ 0 ∷ 0 ∷ 0xF800 ∷ 0 ∷ [])
     -- direct and indirect
-    ∷ stepping (state 5 0 0 0 false false) (at5 0x2602 40 5) [] [] (7 ∷ 0x5000 ∷ 0 ∷ 0 ∷ 1 ∷ 0 ∷ 0 ∷ 5 ∷ 0xF000 ∷ 0 ∷ [])
-    ∷ stepping (state 5 0 0 0 false false) (at5 0x2702 40 5) [] [] (7 ∷ 0x5000 ∷ 0 ∷ 0 ∷ 1 ∷ 0 ∷ 0 ∷ 0x2702 ∷ 0xF000 ∷ 0 ∷ [])
+    ∷ stepping (state 5 0 0 0 false false) (at5 0x2602 40 5) [] [] (7 ∷ 0x5000 ∷ 0 ∷ 0 ∷ 1 ∷ 0x0770 ∷ 0 ∷ 0 ∷ 5 ∷ 0xF000 ∷ 0 ∷ [])
+    ∷ stepping (state 5 0 0 0 false false) (at5 0x2702 40 5) [] [] (7 ∷ 0x5000 ∷ 0 ∷ 0 ∷ 1 ∷ 0x0770 ∷ 0 ∷ 0 ∷ 0x2702 ∷ 0xF000 ∷ 0 ∷ [])
     -- the indirect word is looked up in the operand set, whose page 1 has lock 3: key 2 is refused, key 3 passes
-    ∷ stepping (state 5 0x0020 0 0 false false) (at5 0x2702 0x1028 5) ((257, 0x3000) ∷ []) [] (7 ∷ 0x0020 ∷ 0 ∷ 0x4000 ∷ 0x8001 ∷ 0 ∷ 0 ∷ 0 ∷ 0xF000 ∷ 0 ∷ [])
-    ∷ stepping (state 5 0x0030 0 0 false false) (at5 0x2702 0x1028 5) ((257, 0x3000) ∷ []) [] (7 ∷ 0x5030 ∷ 0 ∷ 0 ∷ 1 ∷ 0 ∷ 0 ∷ 0x2702 ∷ 0xF000 ∷ 0 ∷ [])
+    ∷ stepping (state 5 0x0020 0 0 false false) (at5 0x2702 0x1028 5) ((257, 0x3000) ∷ []) [] (7 ∷ 0x0020 ∷ 0 ∷ 0x4000 ∷ 0x8001 ∷ 0x1000 ∷ 0 ∷ 0 ∷ 0 ∷ 0xF000 ∷ 0 ∷ [])
+    ∷ stepping (state 5 0x0030 0 0 false false) (at5 0x2702 0x1028 5) ((257, 0x3000) ∷ []) [] (7 ∷ 0x5030 ∷ 0 ∷ 0 ∷ 1 ∷ 0x0770 ∷ 0 ∷ 0 ∷ 0x2702 ∷ 0xF000 ∷ 0 ∷ [])
     -- a read and a write of a page with W 1 beyond the memory: the read is checked first
-    ∷ stepping (state 5 0 0 0 false false) (at5 0x2605 0x1028 5) ((257, 0x08FF) ∷ []) [] (7 ∷ 0 ∷ 0 ∷ 0x4000 ∷ 0x0081 ∷ 0 ∷ 0 ∷ 0 ∷ 0xF000 ∷ 0 ∷ [])
+    ∷ stepping (state 5 0 0 0 false false) (at5 0x2605 0x1028 5) ((257, 0x08FF) ∷ []) [] (7 ∷ 0 ∷ 0 ∷ 0x4000 ∷ 0x0081 ∷ 0x1000 ∷ 0 ∷ 0 ∷ 0 ∷ 0xF000 ∷ 0 ∷ [])
     -- the write alone is refused: nothing happens
-    ∷ stepping (state 5 0 0 0 false false) (at5 0x2605 40 5) ((256, 0x0800) ∷ []) (40 ∷ []) (7 ∷ 0 ∷ 0 ∷ 0x4000 ∷ 0x8001 ∷ 0 ∷ 0 ∷ 0 ∷ 0xF000 ∷ 0 ∷ 5 ∷ [])
+    ∷ stepping (state 5 0 0 0 false false) (at5 0x2605 40 5) ((256, 0x0800) ∷ []) (40 ∷ []) (7 ∷ 0 ∷ 0 ∷ 0x4000 ∷ 0x8001 ∷ 0x0000 ∷ 0 ∷ 0 ∷ 0 ∷ 0xF000 ∷ 0 ∷ 5 ∷ [])
     -- neither is: of SW CS alone changes
-    ∷ stepping (state 5 0xFA21 0 0 false false) (at5 0x2605 40 5) [] (40 ∷ []) (7 ∷ 0x5A21 ∷ 0 ∷ 0 ∷ 1 ∷ 0 ∷ 0 ∷ 5 ∷ 0xF000 ∷ 0 ∷ 0xBEEF ∷ [])
+    ∷ stepping (state 5 0xFA21 0 0 false false) (at5 0x2605 40 5) [] (40 ∷ []) (7 ∷ 0x5A21 ∷ 0 ∷ 0 ∷ 1 ∷ 0x0770 ∷ 0 ∷ 0 ∷ 5 ∷ 0xF000 ∷ 0 ∷ 0xBEEF ∷ [])
     -- a fault of a one-word instruction: IC + 1
-    ∷ stepping (state 5 0 0 0 false false) (at5 0x1005 0 0) ((256, 0x00FF) ∷ []) [] (6 ∷ 0 ∷ 0 ∷ 0x4000 ∷ 0x0081 ∷ 0 ∷ 0 ∷ 0 ∷ 0xF000 ∷ 0 ∷ [])
+    ∷ stepping (state 5 0 0 0 false false) (at5 0x1005 0 0) ((256, 0x00FF) ∷ []) [] (6 ∷ 0 ∷ 0 ∷ 0x4000 ∷ 0x0081 ∷ 0x0000 ∷ 0 ∷ 0 ∷ 0 ∷ 0xF000 ∷ 0 ∷ [])
     -- a command refused, and one done
-    ∷ stepping (state 5 0 0 0 false false) (at5 0x2001 0x9000 0) [] [] (7 ∷ 0 ∷ 0 ∷ 0x4000 ∷ 0x0401 ∷ 0 ∷ 0 ∷ 0 ∷ 0xF000 ∷ 0 ∷ [])
-    ∷ stepping (state 5 0 0 0 false false) (at5 0x2001 0x0123 0) [] [] (7 ∷ 0 ∷ 0 ∷ 0 ∷ 1 ∷ 0 ∷ 1 ∷ 0 ∷ 0x0123 ∷ 0x0123 ∷ [])
+    ∷ stepping (state 5 0 0 0 false false) (at5 0x2001 0x9000 0) [] [] (7 ∷ 0 ∷ 0 ∷ 0x4000 ∷ 0x0401 ∷ 0x0770 ∷ 0 ∷ 0 ∷ 0 ∷ 0xF000 ∷ 0 ∷ [])
+    ∷ stepping (state 5 0 0 0 false false) (at5 0x2001 0x0123 0) [] [] (7 ∷ 0 ∷ 0 ∷ 0 ∷ 1 ∷ 0x0770 ∷ 0 ∷ 1 ∷ 0 ∷ 0x0123 ∷ 0x0123 ∷ [])
     ∷ []
 
 -- the duration of a step

@@ -21,9 +21,9 @@ stateAt regs ic sw = withProcessor resetState (joined (withSw (withIc (resetStat
 abbrev pub stepsOn : ℕ → State → State
 stepsOn n s = withClock s (withCount (withRemB (withTb (withTa (s .clock) n) (n / 10)) (n % 10 * 100)) n)
 
--- IC, SW, MK, PI, FT, enabled, hold
+-- IC, SW, MK, PI, FT, MFS, enabled, hold
 abbrev pub coreParts : Core → List ℕ
-coreParts c = c .ic ∷ c .sw ∷ c .mk ∷ c .pi ∷ c .ft ∷ flag (c .enabled) ∷ flag (c .hold) ∷ []
+coreParts c = c .ic ∷ c .sw ∷ c .mk ∷ c .pi ∷ c .faults .ft ∷ c .faults .mfs ∷ flag (c .enabled) ∷ flag (c .hold) ∷ []
 
 -- timers A and B, their remainders and running marks, the counter
 abbrev pub clockParts : Clock → List ℕ

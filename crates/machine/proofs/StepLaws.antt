@@ -12,7 +12,7 @@ use lib.ListN.{length, getD}
 use Rattle.page.specs.Pages.{MaySee}
 use Rattle.page.specs.Spans.{written}
 use Rattle.machine.specs.declared.State.{State}
-use Rattle.machine.specs.State.{keyOf, groupOf, withCs, withIc, withSw, withPi, withFt, withHold}
+use Rattle.machine.specs.State.{keyOf, groupOf, withCs, withIc, withSw, withPi, withFaults, withHold}
 use Rattle.machine.specs.Machine.{Machine, machine, Isa}
 use Rattle.machine.specs.Instructions.{Action, enter, call, fail, affect, govern, View}
 use Rattle.machine.specs.Entries.{chosen}
@@ -82,7 +82,7 @@ module _ (isa : Isa) (s : State) (m₁ m₂ g o : List ℕ) (h : Same (MaySee (k
   -- an action that is no entry and nothing privileged, and a tick of any time
   performed-found : (t : ℕ) (d : Action) → isEntry d ≡ false → Governed (λ r. ⊥) d
       → Found (machine s m₁ g o) (machine s m₂ g o) (tick t (perform (begunFrom s) m₁ g o d)) (tick t (perform (begunFrom s) m₂ g o d))
-  unfolding perform tick isEntry stored begunFrom released withHold faulted affected ticked withIc withSw withPi withFt
+  unfolding perform tick isEntry stored begunFrom released withHold faulted affected ticked withIc withSw withPi withFaults
   performed-found t (enter n) e u = absurd (true≢false e)
   performed-found t (call n) e u = absurd (true≢false e)
   performed-found t (fail b a) e u = record {

@@ -1,5 +1,6 @@
--- The definitions of the processor for any instruction set: its state, one step, timelines, runs, and the isolation of two machines.
+-- The definitions of the processor for any instruction set: its state, faults, one step, timelines, runs, the isolation of two machines, and the old rule of the timers.
 pub mod State
+pub mod Faults
 pub mod Machine
 pub mod Instructions
 pub mod Entries

@@ -8,16 +8,18 @@ use lib.ListN.{length, getD}
 use Rattle.page.specs.declared.Got.{Got}
 use Rattle.page.specs.declared.Got.the-variants.{Word, Missed}
 use Rattle.page.specs.declared.Span.{Span}
+use Rattle.page.specs.declared.Refusal.{Refusal}
 use Rattle.page.specs.Spans.{wrapped, written}
 use Rattle.machine.specs.declared.State.{State}
 use Rattle.machine.specs.declared.Core.{Core}
 use Rattle.machine.specs.declared.Clock.{Clock}
 use Rattle.machine.specs.declared.Vector.{Vector}
 use Rattle.bits.specs.Bits.{weight}
-use Rattle.machine.specs.State.{keyOf, groupOf, withCs, advanced, Processor, joined, processor, withProcessor, withCore, withClock, withIc, withPi, updated, withFt, withHold}
+use Rattle.machine.specs.State.{keyOf, groupOf, withCs, advanced, Processor, joined, processor, withProcessor, withCore, withClock, withIc, withPi, updated, withFaults, withHold}
+use Rattle.machine.specs.Faults.{recorded}
 use Rattle.machine.specs.Machine.{Machine, machine, Isa, Effect}
 use Rattle.machine.specs.Instructions.{Action, enter, call, fail, affect, govern, View, view, instructed}
-use Rattle.machine.specs.Entries.{chosen, vectorOf, callOf, linked, linkStored, refusalOf, arrived}
+use Rattle.machine.specs.Entries.{chosen, vectorOf, callOf, linked, linkStored, storedAfter, arrived}
 
 -- ---- what is done
 
@@ -29,9 +31,9 @@ released c = withHold c false
 unfoldable pub begunFrom : State → State
 begunFrom s = withCore s (released (s .core))
 
--- a fault sets its FT bit b and PI bit 1; of the instruction nothing but IC is left
-unfoldable pub faulted : Core → ℕ → ℕ → Core
-faulted c b a = withFt (withPi (withIc c a) (bitOr (c .pi) (weight 1))) (bitOr (c .ft) b)
+-- a fault b sets its FT bit and PI bit 1; of the instruction nothing but IC is left
+unfoldable pub faulted : Core → Refusal → ℕ → Core
+faulted c b a = withFaults (withPi (withIc c a) (bitOr (c .pi) (weight 1))) (recorded (c .faults) b)
 
 -- a user's effect: of SW it changes CS alone
 unfoldable pub affected : Processor → Effect → Processor
@@ -45,7 +47,7 @@ stored c m g e p = written (keyOf (c .sw)) (groupOf (c .sw)) g (length m) p (e .
 unfoldable pub entered : State → Core → List ℕ → List ℕ → List ℕ → ℕ → Vector → Machine
 entered s c m g o n v =
     let stores = linked m g v in
-    machine (withCore s (arrived c n v (bitOr (v .fault) (refusalOf stores)))) (linkStored c m g v stores) g o
+    machine (withCore s (arrived c n v (storedAfter (v .fault) stores))) (linkStored c m g v stores) g o
 
 -- BEX is an entry of interrupt 5, from the IC after it; a user's effect leaves page registers and ports
 unfoldable pub perform : State → List ℕ → List ℕ → List ℕ → Action → Machine

@@ -14,7 +14,7 @@ use Rattle.operand_words.specs.declared.Gathered.{Gathered}
 use Rattle.operand_words.specs.Gathers.{complete, denied, gathered}
 
 abbrev parts : Gathered → List ℕ
-parts r = flag (r .clear) ∷ r .fault ∷ r .x ∷ r .y ∷ r .z ∷ []
+parts r = flag (r .clear) ∷ r .fault .ft ∷ r .fault .mfs ∷ r .x ∷ r .y ∷ r .z ∷ []
 
 abbrev memory : List ℕ
 memory = 10 ∷ 11 ∷ 12 ∷ 13 ∷ []
@@ -28,7 +28,7 @@ unfolding machinery complete denied gathered
 rows =
     -- gather: only the first word of a pair checked; the word before a refused one kept
     some (parts (gathered (checked 3 0 pages 4 (spanFrom 3 2) Read) (wordsOf 3 0 pages 4 (spanFrom 3 2) memory)))
-    (0 ∷ 0x0080 ∷ 0 ∷ 0 ∷ 0 ∷ []) (1 ∷ 0 ∷ 13 ∷ 0 ∷ 0 ∷ []) (0 ∷ 0x0080 ∷ 13 ∷ 0 ∷ 0 ∷ [])
+    (0 ∷ 0x0080 ∷ 0 ∷ 0 ∷ 0 ∷ 0 ∷ []) (1 ∷ 0 ∷ 0 ∷ 13 ∷ 0 ∷ 0 ∷ []) (0 ∷ 0x0080 ∷ 0 ∷ 13 ∷ 0 ∷ 0 ∷ [])
     -- store_words: the third word at the address of the second; the group in place of the key
     ∷ some (written (keyOf 0x0031) (groupOf 0x0031) pages 4 (spanFrom 1 3) (three 7 8 9) memory)
     (10 ∷ 7 ∷ 8 ∷ 9 ∷ []) (10 ∷ 7 ∷ 9 ∷ 13 ∷ []) (10 ∷ 11 ∷ 12 ∷ 13 ∷ [])

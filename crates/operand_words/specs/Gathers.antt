@@ -11,8 +11,10 @@ use Rattle.page.specs.declared.Got.{Got}
 use Rattle.page.specs.declared.Got.the-variants.{Word, Missed}
 use Rattle.page.specs.declared.Verdict.{Verdict}
 use Rattle.page.specs.declared.Verdict.the-variants.{Clear, Fault}
+use Rattle.page.specs.declared.Refusal.{Refusal}
 use Rattle.page.specs.Pages.{lookup}
 use Rattle.page.specs.Spans.{wrapped, gotAt, putAt, passed}
+use Rattle.machine.specs.Faults.{ftAlone}
 use Rattle.operand_words.specs.declared.Gathered.{Gathered}
 
 -- x, y and z are the first three of the words
@@ -22,9 +24,9 @@ pub record FirstThree (ws : List ℕ) (x y z : ℕ) : Type 0 where
   pub third-is : z ≡ getD ws 2 0
 
 unfoldable pub complete : ℕ → ℕ → ℕ → Gathered
-complete x y z = record { clear = true; fault = 0; x = x; y = y; z = z }
+complete x y z = record { clear = true; fault = ftAlone 0; x = x; y = y; z = z }
 
-unfoldable pub denied : ℕ → Gathered
+unfoldable pub denied : Refusal → Gathered
 denied b = record { clear = false; fault = b; x = 0; y = 0; z = 0 }
 
 -- the first three of the words, where the check is clear

@@ -10,6 +10,7 @@ ghost use Rattle.isa.specs.Effects.{three};
 ghost use Rattle.operand_words.specs.Gathers.{complete, denied, gathered, fromThird, fromSecond, storedOne};
 use page::Access;
 use page::Got;
+use page::Refusal;
 use page::Span;
 use status_word::group_of;
 use status_word::key_of;
@@ -17,14 +18,14 @@ use std::num::wrapping_add_u16;
 use storage::read::read_word;
 use storage::write::write_word;
 
-// The words read, 0 past their number, where all accesses are open; else the FT bit of the first refusal. The order was chosen by measurement
+// The words read, 0 past their number, where all accesses are open; else the first refusal. The order was chosen by measurement
 // (docs/BENCHMARK.md, "Sizes").
 pub struct Gathered {
     pub x: u16,
     pub clear: bool,
     pub y: u16,
     pub z: u16,
-    pub fault: u16,
+    pub fault: Refusal,
 }
 
 // All words are there.
@@ -33,7 +34,7 @@ fn complete(x: u16, y: u16, z: u16) -> Gathered
 {
     Gathered {
         clear: true,
-        fault: 0,
+        fault: Refusal { ft: 0, mfs: 0 },
         x,
         y,
         z,
@@ -41,7 +42,7 @@ fn complete(x: u16, y: u16, z: u16) -> Gathered
 }
 
 // A word is refused.
-fn denied(b: u16) -> Gathered
+fn denied(b: Refusal) -> Gathered
     ensures { λ r. ⌜ r ≡ denied b ⌝ }
 {
     Gathered {

@@ -12,7 +12,7 @@ use lib.ListN.{length, getD, set, take, replicate, length-set}
 use lib.Seq.{paste, paste-zero, paste-suc, length-take-le, take-all, take-length, drop-length, take-at, getD-append-add}
 use Rattle.packed.specs.Packed.{size, marks, marked, markAt, marksOf, withMarks, layout, unpacked, packed}
 use Rattle.machine.specs.declared.State.{State}
-use Rattle.machine.specs.State.{withIc, withSw, withMk, withPi, withFt, withEnabled, withHold, withTa, withTb, withRemA, withRemB, withTaOn, withTbOn, withCount}
+use Rattle.machine.specs.State.{withIc, withSw, withMk, withPi, withFaults, withFt, withMfs, withEnabled, withHold, withTa, withTb, withRemA, withRemB, withTaOn, withTbOn, withCount}
 use Rattle.bits.specs.Bits.{weight}
 
 -- ---- the list s copied into d from word `at` on, after i words
@@ -48,7 +48,7 @@ pub record Parts (w : List ℕ) (s : State) : Type 0 where
   pub sw-is : s .core .sw ≡ getD w 17 0
   pub mk-is : s .core .mk ≡ getD w 18 0
   pub pi-is : s .core .pi ≡ getD w 19 0
-  pub ft-is : s .core .ft ≡ getD w 20 0
+  pub ft-is : s .core .faults .ft ≡ getD w 20 0
   pub enabled-is : s .core .enabled ≡ marked (getD w 21 0) 15
   pub hold-is : s .core .hold ≡ marked (getD w 21 0) 14
   pub taon-is : s .clock .taon ≡ marked (getD w 21 0) 13
@@ -57,10 +57,11 @@ pub record Parts (w : List ℕ) (s : State) : Type 0 where
   pub tb-is : s .clock .tb ≡ getD w 23 0
   pub rema-is : s .clock .rema ≡ getD w 24 0
   pub remb-is : s .clock .remb ≡ getD w 25 0
+  pub mfs-is : s .core .faults .mfs ≡ getD w 26 0
   pub count-is : s .clock .count ≡ 65536 * getD w 32 0 + getD w 33 0
 
 pub from-parts : (w : List ℕ) (s : State) → Parts w s → s ≡ unpacked w
-unfolding unpacked layout marks withMarks withIc withSw withMk withPi withFt withEnabled withHold withTa withTb withRemA withRemB withTaOn withTbOn withCount
+unfolding unpacked layout marks withMarks withIc withSw withMk withPi withFaults withFt withMfs withEnabled withHold withTa withTb withRemA withRemB withTaOn withTbOn withCount
 from-parts w s h = λ i. record {
   regs = h .regs-is i;
   core = record {
@@ -68,7 +69,7 @@ from-parts w s h = λ i. record {
     sw = h .sw-is i;
     mk = h .mk-is i;
     pi = h .pi-is i;
-    ft = h .ft-is i;
+    faults = record { ft = h .ft-is i; mfs = h .mfs-is i };
     enabled = h .enabled-is i;
     hold = h .hold-is i;
   };
@@ -139,8 +140,8 @@ later a b h n = rw (← h) (getD-append-add a b n 0)
 -- the words after R0 to R15
 abbrev others : State → List ℕ
 others s =
-    (s .core .ic ∷ s .core .sw ∷ s .core .mk ∷ s .core .pi ∷ s .core .ft ∷ marksOf s ∷ s .clock .ta ∷ s .clock .tb ∷ s .clock .rema ∷ s .clock .remb ∷ [])
-    ++ (replicate 6 0 ++ ((s .clock .count / 65536 ∷ s .clock .count % 65536 ∷ []) ++ replicate 222 0))
+    (s .core .ic ∷ s .core .sw ∷ s .core .mk ∷ s .core .pi ∷ s .core .faults .ft ∷ marksOf s ∷ s .clock .ta ∷ s .clock .tb ∷ s .clock .rema ∷ s .clock .remb ∷ s .core .faults .mfs ∷ [])
+    ++ (replicate 5 0 ++ ((s .clock .count / 65536 ∷ s .clock .count % 65536 ∷ []) ++ replicate 222 0))
 
 -- a state with sixteen registers
 pub registers-first : (s : State) → length (s .regs) ≡ 16 → packed s ≡ s .regs ++ others s
@@ -174,6 +175,7 @@ unpacked-packed s h =
       tb-is = at 7;
       rema-is = at 8;
       remb-is = at 9;
+      mfs-is = at 10;
       count-is = omega arith;
     }))
 
@@ -184,7 +186,7 @@ one-more m c h = mod-mul m (omega arith) h ∙ add-comm _ _ ∙ ap (λ n. m % c 
 -- 256 words: what no part has is cleared, and bits 0 to 11 of the marks
 module _ (w : List ℕ) where
   marks-cleared : marksOf (unpacked w) ≡ getD w 21 0 % 16
-  unfolding unpacked layout marks withMarks marked withIc withSw withMk withPi withFt withEnabled withHold withTa withTb withRemA withRemB withTaOn withTbOn withCount
+  unfolding unpacked layout marks withMarks marked withIc withSw withMk withPi withFaults withFt withMfs withEnabled withHold withTa withTb withRemA withRemB withTaOn withTbOn withCount
   marks-cleared =
       let m = getD w 21 0 in
       marks-digits (unpacked w) ∙ rw (bit-digit m 15, bit-digit m 14, bit-digit m 13, bit-digit m 12) (rw (one-more m 8 (omega arith), one-more m 4 (omega arith), one-more m 2 (omega arith), div-one m) refl)
@@ -192,9 +194,9 @@ module _ (w : List ℕ) where
   pub packed-unpacked : length w ≡ size → getD w 33 0 < 65536
       → packed (unpacked w)
       ≡ take 16 w
-      ++ ((getD w 16 0 ∷ getD w 17 0 ∷ getD w 18 0 ∷ getD w 19 0 ∷ getD w 20 0 ∷ getD w 21 0 % 16 ∷ getD w 22 0 ∷ getD w 23 0 ∷ getD w 24 0 ∷ getD w 25 0 ∷ [])
-      ++ (replicate 6 0 ++ ((getD w 32 0 ∷ getD w 33 0 ∷ []) ++ replicate 222 0)))
-  unfolding unpacked layout marks withMarks withIc withSw withMk withPi withFt withEnabled withHold withTa withTb withRemA withRemB withTaOn withTbOn withCount
+      ++ ((getD w 16 0 ∷ getD w 17 0 ∷ getD w 18 0 ∷ getD w 19 0 ∷ getD w 20 0 ∷ getD w 21 0 % 16 ∷ getD w 22 0 ∷ getD w 23 0 ∷ getD w 24 0 ∷ getD w 25 0 ∷ getD w 26 0 ∷ [])
+      ++ (replicate 5 0 ++ ((getD w 32 0 ∷ getD w 33 0 ∷ []) ++ replicate 222 0)))
+  unfolding unpacked layout marks withMarks withIc withSw withMk withPi withFaults withFt withMfs withEnabled withHold withTa withTb withRemA withRemB withTaOn withTbOn withCount
   packed-unpacked l h =
       let n = getD w 32 0 in
       let k = getD w 33 0 in

@@ -8,7 +8,7 @@ use lib.Seq.{paste}
 use Rattle.machine.specs.declared.State.{State}
 use Rattle.machine.specs.declared.Core.{Core}
 use Rattle.machine.specs.declared.Clock.{Clock}
-use Rattle.machine.specs.State.{withRegs, withCore, withClock, withIc, withSw, withMk, withPi, withFt, withEnabled, withHold, withTa, withTb, withRemA, withRemB, withTaOn, withTbOn, withCount, resetState}
+use Rattle.machine.specs.State.{withRegs, withCore, withClock, withIc, withSw, withMk, withPi, withFt, withMfs, withEnabled, withHold, withTa, withTb, withRemA, withRemB, withTaOn, withTbOn, withCount, resetState}
 use Rattle.bits.specs.Bits.{weight}
 
 -- how many words there are
@@ -86,7 +86,7 @@ abbrev pub twoWords : ℕ → (State → ℕ) → (State → ℕ → State) → 
 twoWords at of put =
     record { first = at; count = 2; of = λ s. of s / 65536 ∷ of s % 65536 ∷ []; put = λ s w. put s (65536 * getD w at 0 + getD w (suc at) 0) }
 
--- every part, by its first word; 26 to 30 are kept for later ones. A word that no part has is not looked at, and 0 in a packed state
+-- every part, by its first word; 27 to 30 are kept for later ones. A word that no part has is not looked at, and 0 in a packed state
 unfoldable pub layout : List Part
 layout =
     manyWords 0 16 (λ s. s .regs) withRegs
@@ -94,12 +94,13 @@ layout =
     ∷ oneWord 17 (λ s. s .core .sw) (inCore withSw)
     ∷ oneWord 18 (λ s. s .core .mk) (inCore withMk)
     ∷ oneWord 19 (λ s. s .core .pi) (inCore withPi)
-    ∷ oneWord 20 (λ s. s .core .ft) (inCore withFt)
+    ∷ oneWord 20 (λ s. s .core .faults .ft) (inCore withFt)
     ∷ oneWord 21 marksOf withMarks
     ∷ oneWord 22 (λ s. s .clock .ta) (inClock withTa)
     ∷ oneWord 23 (λ s. s .clock .tb) (inClock withTb)
     ∷ oneWord 24 (λ s. s .clock .rema) (inClock withRemA)
     ∷ oneWord 25 (λ s. s .clock .remb) (inClock withRemB)
+    ∷ oneWord 26 (λ s. s .core .faults .mfs) (inCore withMfs)
     ∷ twoWords 32 (λ s. s .clock .count) (inClock withCount)
     ∷ []
 

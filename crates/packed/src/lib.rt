@@ -9,6 +9,7 @@ ghost use lib.Seq.{paste};
 ghost use Rattle.packed.specs.Packed.{size, marksOf, unpacked, packed};
 use machine::Clock;
 use machine::Core;
+use machine::Faults;
 use machine::State;
 
 // How many words there are.
@@ -33,6 +34,8 @@ const TIMER_B: usize = 23;
 const REMAINDER_A: usize = 24;
 
 const REMAINDER_B: usize = 25;
+
+const MFS: usize = 26;
 
 const COUNTER: usize = 32;
 // The marks, by the weights of their bits.
@@ -96,12 +99,16 @@ pub fn unpack(words: &[u16]) -> State
     let mut regs = [0u16; 16];
     copy(&mut regs, 0, &words[..16]);
     let on = words[MARKS];
+    let faults = Faults {
+        ft: words[FT],
+        mfs: words[MFS],
+    };
     let core = Core {
         ic: words[IC],
         sw: words[SW],
         mk: words[MK],
         pi: words[PI],
-        ft: words[FT],
+        faults,
         enabled: marked(on, ENABLED),
         hold: marked(on, HOLD),
     };
@@ -127,12 +134,13 @@ pub fn pack(s: State, words: &mut [u16])
     all[SW] = s.core.sw;
     all[MK] = s.core.mk;
     all[PI] = s.core.pi;
-    all[FT] = s.core.ft;
+    all[FT] = s.core.faults.ft;
     all[MARKS] = marks(s);
     all[TIMER_A] = s.clock.ta;
     all[TIMER_B] = s.clock.tb;
     all[REMAINDER_A] = s.clock.rema;
     all[REMAINDER_B] = s.clock.remb;
+    all[MFS] = s.core.faults.mfs;
     all[COUNTER] = (s.clock.count / 65536) as u16;
     all[COUNTER + 1] = (s.clock.count % 65536) as u16;
     let regs = s.regs;

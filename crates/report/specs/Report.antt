@@ -23,7 +23,7 @@ controlLine c =
     ++ (named (115 ∷ 119 ∷ 32 ∷ []) (c .sw) blank
     ++ (named (109 ∷ 107 ∷ 32 ∷ []) (c .mk) blank
     ++ (named (112 ∷ 105 ∷ 32 ∷ []) (c .pi) blank
-    ++ named (102 ∷ 116 ∷ 32 ∷ []) (c .ft) newline)))
+    ++ named (102 ∷ 116 ∷ 32 ∷ []) (c .faults .ft) newline)))
 
 -- n general registers from the given one on, each after a blank
 unfoldable pub registers : List ℕ → ℕ → ℕ → List ℕ

@@ -41,7 +41,7 @@ fn put_control(out: &mut [u8; 256], at: usize, c: Core) -> usize
     let at = put_named(out, at, b"sw ", c.sw, b' ');
     let at = put_named(out, at, b"mk ", c.mk, b' ');
     let at = put_named(out, at, b"pi ", c.pi, b' ');
-    put_named(out, at, b"ft ", c.ft, b'\n')
+    put_named(out, at, b"ft ", c.faults.ft, b'\n')
 }
 
 // A general register after a blank: 5 bytes.

@@ -7,6 +7,7 @@ ghost use Rattle.machine.specs.Machine.{Became};
 ghost use Rattle.reset.specs.Reset.{cycle, resetMachine};
 use machine::Clock;
 use machine::Core;
+use machine::Faults;
 use machine::State;
 
 // Each word its number modulo a period: 16 numbers the pages of every group, 1 makes all words 0; there is no other caller.
@@ -30,7 +31,7 @@ pub fn reset_state() -> State
         sw: 0,
         mk: 0,
         pi: 0,
-        ft: 0,
+        faults: Faults { ft: 0, mfs: 0 },
         enabled: false,
         hold: false,
     };

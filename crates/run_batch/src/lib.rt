@@ -36,6 +36,7 @@ use interrupt_vector::pending::choose;
 use interrupt_vector::pointers::vector;
 use machine::Clock;
 use machine::Core;
+use page::Verdict;
 use status_word::group_of;
 use status_word::key_of;
 
@@ -47,8 +48,8 @@ fn interrupted(core: Core, memory: &mut [u16], pages: &[u16], n: u16) -> Core
 {
     let v = vector(memory, pages, n);
     let old = release(core);
-    let refusal = link(old.mk, old.sw, old.ic, memory, pages, v.sw, v.link);
-    arrive(old, n, v, refusal)
+    let stores: Verdict = link(old.mk, old.sw, old.ic, memory, pages, v.sw, v.link);
+    arrive(old, n, v, stores)
 }
 
 // A segment of a batch, an entry or instructions in a row, where it ended, before its last tick: the ticks deferred up to there, one for each step of the batch, and

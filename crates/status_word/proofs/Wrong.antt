@@ -11,7 +11,7 @@ use Rattle.machine.proofs.Samples.{coreParts}
 
 -- every part has a value of its own
 abbrev core : Core
-core = record { ic = 1; sw = 2; mk = 3; pi = 4; ft = 5; enabled = true; hold = false }
+core = record { ic = 1; sw = 2; mk = 3; pi = 4; faults = record { ft = 5; mfs = 6 }; enabled = true; hold = false }
 
 pub rows : List Row
 unfolding wrapped keyOf groupOf withCs withIc withSw withPi
@@ -26,9 +26,9 @@ rows =
     ∷ one (wrapped (0xFFFF + 2)) 1 0x10001 0xFFFF
     -- update: PI kept; FT cleared
     ∷ some (coreParts (updated core 0x0102 0x2031 0x0800))
-    (0x0102 ∷ 0x2031 ∷ 3 ∷ 0x0800 ∷ 5 ∷ 1 ∷ 0 ∷ [])
-    (0x0102 ∷ 0x2031 ∷ 3 ∷ 4 ∷ 5 ∷ 1 ∷ 0 ∷ [])
-    (0x0102 ∷ 0x2031 ∷ 3 ∷ 0x0800 ∷ 0 ∷ 1 ∷ 0 ∷ [])
+    (0x0102 ∷ 0x2031 ∷ 3 ∷ 0x0800 ∷ 5 ∷ 6 ∷ 1 ∷ 0 ∷ [])
+    (0x0102 ∷ 0x2031 ∷ 3 ∷ 4 ∷ 5 ∷ 6 ∷ 1 ∷ 0 ∷ [])
+    (0x0102 ∷ 0x2031 ∷ 3 ∷ 0x0800 ∷ 0 ∷ 6 ∷ 1 ∷ 0 ∷ [])
     ∷ []
 
 pub rows-hold : T (hold rows)

@@ -8,13 +8,13 @@ use Rattle.page.specs.declared.Access.the-variants.{Read, Write}
 use Rattle.page.specs.declared.Got.{Got}
 use Rattle.page.specs.declared.Got.the-variants.{Word, Missed}
 use Rattle.page.specs.declared.Span.{Span}
-use Rattle.page.specs.Pages.{lockOf, protectOf, frameOf, setOf, registerAt, admits, barred, physical, placed, through, present, lookup}
+use Rattle.page.specs.Pages.{lockOf, protectOf, frameOf, setOf, registerAt, ioiOf, mfsAt, refusal, admits, barred, physical, placed, through, present, lookup}
 use Rattle.page.specs.Spans.{wrapped, gotAt, wordOf, putAt, passed, readFrom, writtenFrom, written}
 
--- what was got: 1 and the word, or 0 and the FT bit
+-- what was got: 1 and the word, or 0, the FT bit and the status
 abbrev parts : Got → List ℕ
 parts (Word w) = 1 ∷ w ∷ []
-parts (Missed b) = 0 ∷ b ∷ []
+parts (Missed b) = 0 ∷ b .ft ∷ b .mfs ∷ []
 
 abbrev memory : List ℕ
 memory = 10 ∷ 11 ∷ 12 ∷ 13 ∷ []
@@ -32,16 +32,16 @@ span = record { start = 3; count = 3; stride = 65535; hole = 1 }
 
 -- opens the definition of a lookup
 unfoldable pub places : Unit {0}
-unfolding lockOf protectOf frameOf setOf registerAt admits barred physical placed through present lookup
+unfolding lockOf protectOf frameOf setOf registerAt ioiOf mfsAt admits barred physical placed through present lookup
 places = tt
 
 pub rows : List Row
 unfolding places wrapped gotAt wordOf putAt passed readFrom writtenFrom written
 rows =
     -- read::read_word: FT bit 0 for a word past the memory; a word past the memory read as 0
-    some (parts (gotAt memory (lookup Read 0 0 pages 4 5))) (0 ∷ 0x0080 ∷ []) (0 ∷ 0x8000 ∷ []) (1 ∷ 0 ∷ [])
+    some (parts (gotAt memory (lookup Read 0 3 pages 4 0x1005))) (0 ∷ 0x0080 ∷ 0x1003 ∷ []) (0 ∷ 0x8000 ∷ 0x1003 ∷ []) (1 ∷ 0 ∷ [])
     -- read::word_of: the FT bit in place of 0; FFFF in place of 0
-    ∷ some (wordOf (Word 7) ∷ wordOf (Missed 0x8000) ∷ []) (7 ∷ 0 ∷ []) (7 ∷ 0x8000 ∷ []) (7 ∷ 0xFFFF ∷ [])
+    ∷ some (wordOf (Word 7) ∷ wordOf (Missed (refusal 0x8000 0x1003)) ∷ []) (7 ∷ 0 ∷ []) (7 ∷ 0x8000 ∷ []) (7 ∷ 0xFFFF ∷ [])
     -- read::read_span: the hole read too; the words read upwards
     ∷ some (take 4 (readFrom 0 0 pages 4 span memory 3 0 3 (replicate 16 9)))
     (13 ∷ 9 ∷ 11 ∷ 9 ∷ []) (13 ∷ 12 ∷ 11 ∷ 9 ∷ []) (13 ∷ 9 ∷ 0 ∷ 9 ∷ [])

@@ -11,7 +11,7 @@ use page::Span;
 use page::lookup::look_up;
 use std::num::wrapping_add_u16;
 
-// The word at a logical address, or the FT bit of its refusal.
+// The word at a logical address, or its refusal.
 pub fn read_word(access: Access, key: u16, group: u16, memory: &[u16], pages: &[u16], a: u16) -> Got
     requires { ⌜ (length (now pages) ≡ 512) × (group < 16) ⌝ }
     ensures { λ r. ⌜ r ≡ gotAt (now (memory .entry)) (lookup access key group (now (pages .entry)) (length (now (memory .entry))) a) ⌝ }

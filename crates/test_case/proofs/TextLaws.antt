@@ -13,7 +13,7 @@ use Rattle.machine.specs.declared.Core.{Core}
 use Rattle.text.specs.Texts.{bytesOf, hex, leading, decimal, numberedLine, Wrote, Text}
 use Rattle.text.proofs.WroteLaws.{then, shown}
 use Rattle.report.specs.Report.{stepsLine, named, controlLine, registers, registersLine, reportOf}
-use Rattle.test_case_line.specs.Texts.{caseLine, timeLine, remainderLine, entryLine}
+use Rattle.test_case_line.specs.Texts.{caseLine, timeLine, remainderLine, mfsLine, entryLine}
 use Rattle.test_case.specs.Case.{changeLine, changesTo, changes}
 
 -- a line that was made in a buffer of its own
@@ -51,6 +51,10 @@ time-short s = simp length-append (omega (arith, decimal-short (s .clock .count)
 pub remainder-short : (s : State) → length (remainderLine s) ≤ 33
 unfolding remainderLine bytesOf
 remainder-short s = simp length-append (omega (arith, decimal-short (s .clock .rema), decimal-short (s .clock .remb)))
+
+pub mfs-short : (s : State) → length (mfsLine s) ≤ 9
+unfolding mfsLine bytesOf hex
+mfs-short s = omega arith
 
 control-long : (c : Core) → length (controlLine c) ≡ 40
 unfolding controlLine named hex

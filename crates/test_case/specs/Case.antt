@@ -11,7 +11,7 @@ use Rattle.isa.specs.Mil1750.{mil1750}
 use Rattle.reset.specs.Reset.{resetMachine}
 use Rattle.report.specs.Report.{reportOf}
 use Rattle.test_case_line.specs.Fields.{withWord}
-use Rattle.test_case_line.specs.Texts.{caseLine, timeLine, remainderLine, entryLine}
+use Rattle.test_case_line.specs.Texts.{caseLine, timeLine, remainderLine, mfsLine, entryLine}
 use Rattle.test_case.specs.declared.Lengths.{Lengths}
 
 -- the machine before the run, the durations, how many words of memory, page registers, ports and durations the run is lent, and whether an entry names a duration
@@ -96,9 +96,10 @@ changesTo k before after (suc n) = changesTo k before after n ++ changeLine k n 
 unfoldable pub changes : ℕ → List ℕ → List ℕ → List ℕ
 changes k before after = changesTo k before after (length after)
 
--- the case's number, the number of the run's answer, the steps made, the state; where an entry names a duration, the remainders
+-- the case's number, the number of the run's answer, the steps made, the state; where an entry names a duration, the remainders; the memory
+-- fault status, where it is not 0
 unfoldable pub stateLines : ℕ → ℕ → ℕ → Bool → State → List ℕ
-stateLines n answer steps timed s = caseLine n answer ++ (reportOf steps s ++ (timeLine s ++ cond timed (remainderLine s) []))
+stateLines n answer steps timed s = caseLine n answer ++ (reportOf steps s ++ (timeLine s ++ (cond timed (remainderLine s) [] ++ cond (eqb (s .core .faults .mfs) 0) [] (mfsLine s))))
 
 -- case number n: its state, then the words of memory, page registers and ports that have changed
 unfoldable pub caseText : ℕ → ℕ → Case → List ℕ

@@ -1,17 +1,19 @@
 // Text put into a buffer of 262,144 bytes from a place on; each function returns the place after it. Each caller leaves room for it. A case's
-// text is at most 768 bytes of state and 12 for each word that has changed.
+// text is at most 1,024 bytes of state and 12 for each word that has changed.
 ghost use mathlib.Core.Path.{_≡_};
 ghost use Prim.Native.Nat.{_+_, _*_, _≤_};
+ghost use lib.Dec.{eqb};
 ghost use lib.ListN.{length};
 ghost use Rattle.text.specs.Texts.{numberedLine, Wrote};
 ghost use mathlib.Core.Bool.{cond};
 ghost use mathlib.Core.List.{[], _++_};
-ghost use Rattle.test_case_line.specs.Texts.{remainderLine, entryLine};
+ghost use Rattle.test_case_line.specs.Texts.{remainderLine, mfsLine, entryLine};
 ghost use Rattle.test_case.specs.Case.{changes, stateLines};
 ghost use Rattle.test_case.specs.Session.{saidIf};
 use machine::State;
 use test_case_line::output::case_line;
 use test_case_line::output::entry_line;
+use test_case_line::output::mfs_line;
 use test_case_line::output::remainder_line;
 use test_case_line::output::time_line;
 use text::copy;
@@ -64,6 +66,19 @@ fn put_remainders(out: &mut [u8; 262144], at: usize, timed: bool, state: State) 
     at
 }
 
+// The memory fault status, where it is not 0.
+fn put_mfs(out: &mut [u8; 262144], at: usize, state: State) -> usize
+    requires { ⌜ at + 256 ≤ 262144 ⌝ }
+    ensures { λ r. ⌜ (Wrote (now (out .entry)) at (cond (eqb (state .core .faults .mfs) 0) [] (mfsLine state)) (now (out .exit)) r) × (r ≤ at + 256) ⌝ }
+{
+    if state.core.faults.mfs == 0 {
+        return at;
+    }
+    let mut line = [0u8; 256];
+    let end = mfs_line(state, &mut line);
+    add(out, at, &line[..end])
+}
+
 // A case's number, the number of its run's answer, its steps, and the state after it.
 pub(crate) fn put_state(
     out: &mut [u8; 262144],
@@ -73,7 +88,7 @@ pub(crate) fn put_state(
     timed: bool,
     state: State,
 ) -> usize
-    ensures { λ r. ⌜ (Wrote (now (out .entry)) 0 (stateLines number answer steps timed state) (now (out .exit)) r) × (r ≤ 768) ⌝ }
+    ensures { λ r. ⌜ (Wrote (now (out .entry)) 0 (stateLines number answer steps timed state) (now (out .exit)) r) × (r ≤ 1024) ⌝ }
 {
     let mut line = [0u8; 256];
     let end = case_line(number, answer, &mut line);
@@ -82,7 +97,8 @@ pub(crate) fn put_state(
     let at = add(out, at, &line[..end]);
     let end = time_line(state, &mut line);
     let at = add(out, at, &line[..end]);
-    put_remainders(out, at, timed, state)
+    let at = put_remainders(out, at, timed, state);
+    put_mfs(out, at, state)
 }
 
 // An entry.
@@ -123,7 +139,7 @@ pub(crate) fn put_all_changes(
     pages: &[u16; 512],
     ports: &[u16; 1024],
 ) -> usize
-    requires { ⌜ at ≤ 768 ⌝ }
+    requires { ⌜ at ≤ 1024 ⌝ }
     ensures { λ r. ⌜ Wrote (now (out .entry)) at (changes 77 (now (words .entry)) (now (memory .entry))
         ++ (changes 80 (now (registers .entry)) (now (pages .entry)) ++ changes 79 (now (lines .entry)) (now (ports .entry)))) (now (out .exit)) r ⌝ }
 {

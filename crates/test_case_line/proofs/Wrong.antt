@@ -13,13 +13,13 @@ use Rattle.test_case_line.specs.declared.Line.{Line}
 use Rattle.test_case_line.specs.declared.Line.the-variants.{Remark, Entry, Malformed}
 use Rattle.test_case_line.specs.Lines.{sizeOf, limitOf, entryOf, lineOf}
 use Rattle.test_case_line.specs.Fields.{placeOf, withWord}
-use Rattle.test_case_line.specs.Texts.{caseLine, timeLine, remainderLine, entryLine}
+use Rattle.test_case_line.specs.Texts.{caseLine, timeLine, remainderLine, mfsLine, entryLine}
 
 abbrev s : State
 s =
     record {
       regs = replicate 16 0;
-      core = record { ic = 1; sw = 2; mk = 3; pi = 4; ft = 5; enabled = true; hold = false };
+      core = record { ic = 1; sw = 2; mk = 3; pi = 4; faults = record { ft = 5; mfs = 6 }; enabled = true; hold = false };
       clock = record { ta = 10; tb = 20; rema = 30; remb = 40; taon = true; tbon = false; count = 12 };
     }
 
@@ -29,7 +29,7 @@ unfolding digitOf given wordOf sizeOf limitOf entryOf lineOf
 lines = tt
 
 unfoldable texts : Unit {0}
-unfolding bytesOf placeOf withWord marks marked markAt marksOf withMarks layout unpacked packed digit hex leading decimal caseLine timeLine remainderLine entryLine
+unfolding bytesOf placeOf withWord marks marked markAt marksOf withMarks layout unpacked packed digit hex leading decimal caseLine timeLine remainderLine mfsLine entryLine
 texts = tt
 
 -- an entry's kind, number and word; 1 for a remark, 2 for neither
@@ -52,6 +52,8 @@ rows =
     ∷ some (let t = withWord s 26 9 in t .clock .rema ∷ t .clock .remb ∷ t .clock .count ∷ []) (9 ∷ 40 ∷ 12 ∷ []) (30 ∷ 9 ∷ 12 ∷ []) (30 ∷ 40 ∷ 589836 ∷ [])
     -- set::state: the counter's high word set by the number of its low word; the counter left as it was
     ∷ some (withWord s 25 9 .clock .count ∷ []) (9 ∷ []) (589836 ∷ []) (12 ∷ [])
+    -- set::state: the memory fault status left as it was; FT set by its number
+    ∷ some (let t = withWord s 28 9 in t .core .faults .ft ∷ t .core .faults .mfs ∷ []) (5 ∷ 9 ∷ []) (5 ∷ 6 ∷ []) (9 ∷ 6 ∷ [])
     -- output::case_line: number and answer exchanged; the newline left out
     ∷ some (caseLine 7 5)
     (99 ∷ 97 ∷ 115 ∷ 101 ∷ 32 ∷ 55 ∷ 32 ∷ 97 ∷ 110 ∷ 115 ∷ 119 ∷ 101 ∷ 114 ∷ 32 ∷ 53 ∷ 10 ∷ [])
@@ -67,6 +69,8 @@ rows =
     48 ∷ 53 ∷ 32 ∷ 99 ∷ 111 ∷ 117 ∷ 110 ∷ 116 ∷ 32 ∷ 67 ∷ 10 ∷ [])
     -- output::remainder_line: the remainders exchanged; the timers in their place
     ∷ some (remainderLine s) (bytesOf "remainders 30 40" ++ (10 ∷ [])) (bytesOf "remainders 40 30" ++ (10 ∷ [])) (bytesOf "remainders 10 20" ++ (10 ∷ []))
+    -- output::mfs_line: FT in its place; without its zeros
+    ∷ some (mfsLine s) (bytesOf "mfs 0006" ++ (10 ∷ [])) (bytesOf "mfs 0005" ++ (10 ∷ [])) (bytesOf "mfs 6" ++ (10 ∷ []))
     -- output::entry_line: number and word exchanged; the kind without a blank after it
     ∷ some (entryLine 77 0x0012 0x00AB)
     (77 ∷ 32 ∷ 48 ∷ 48 ∷ 49 ∷ 50 ∷ 32 ∷ 48 ∷ 48 ∷ 65 ∷ 66 ∷ 10 ∷ [])

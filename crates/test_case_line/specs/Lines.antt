@@ -12,7 +12,7 @@ use Rattle.test_case_line.specs.declared.Line.{Line}
 
 -- how many numbers a kind has
 unfoldable pub sizeOf : ℕ → ℕ
-sizeOf k = select k ((83, 28) ∷ (77, 16384) ∷ (80, 512) ∷ (79, 1024) ∷ (68, 258) ∷ (76, 4) ∷ (71, 65536) ∷ []) 0
+sizeOf k = select k ((83, 29) ∷ (77, 16384) ∷ (80, 512) ∷ (79, 1024) ∷ (68, 258) ∷ (76, 4) ∷ (71, 65536) ∷ []) 0
 
 -- the largest word: a length is at most the words that there are (memory, page registers, ports, durations)
 unfoldable pub limitOf : ℕ → ℕ → ℕ

@@ -29,6 +29,10 @@ timeLine s =
 unfoldable pub remainderLine : State → List ℕ
 remainderLine s = bytesOf "remainders " ++ (decimal (s .clock .rema) ++ ((blank ∷ []) ++ (decimal (s .clock .remb) ++ (newline ∷ []))))
 
+-- the memory fault status: "mfs "
+unfoldable pub mfsLine : State → List ℕ
+mfsLine s = bytesOf "mfs " ++ (hex (s .core .faults .mfs) ++ (newline ∷ []))
+
 -- an entry: its kind letter, its number, its word
 unfoldable pub entryLine : ℕ → ℕ → ℕ → List ℕ
 entryLine k n w = (k ∷ []) ++ ((blank ∷ []) ++ (hex n ++ ((blank ∷ []) ++ (hex w ++ (newline ∷ [])))))

@@ -10,7 +10,7 @@ fn size(kind: u8) -> u32
     ensures { λ r. ⌜ (r ≡ sizeOf kind) × (r ≤ 65536) ⌝ }
 {
     match kind {
-        b'S' => 28,
+        b'S' => 29,
         b'M' => 16384,
         b'P' => 512,
         b'O' => 1024,

@@ -1,6 +1,6 @@
 // The text of a case, but for the report: its first and last lines, the lines of what it changed, and messages.
 ghost use Rattle.text.specs.Texts.{Text};
-ghost use Rattle.test_case_line.specs.Texts.{caseLine, timeLine, remainderLine, entryLine};
+ghost use Rattle.test_case_line.specs.Texts.{caseLine, timeLine, remainderLine, mfsLine, entryLine};
 use machine::State;
 use packed::marks;
 use text::put;
@@ -42,6 +42,15 @@ pub fn remainder_line(s: State, out: &mut [u8; 256]) -> usize
     let at = put_decimal(out, at, s.clock.rema as u32);
     let at = put(out, at, b' ');
     let at = put_decimal(out, at, s.clock.remb as u32);
+    put(out, at, b'\n')
+}
+
+// The memory fault status.
+pub fn mfs_line(s: State, out: &mut [u8; 256]) -> usize
+    ensures { λ r. ⌜ Text (now (out .entry)) (mfsLine s) (now (out .exit)) r ⌝ }
+{
+    let at = put_bytes(out, 0, b"mfs ");
+    let at = put_hex(out, at, s.core.faults.mfs);
     put(out, at, b'\n')
 }
 

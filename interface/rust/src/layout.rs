@@ -2,10 +2,10 @@
 //! the sizes of the list of durations and of the buffer that a mnemonic line is printed into.
 //!
 //! R0 to R15 are words 0 to 15. Every word that has no name here is not looked at, and is 0 after a call that is done; the
-//! same holds for the bits of [`MARKS`] that are no marks. Words 26 to 30 are kept for parts of a later version.
+//! same holds for the bits of [`MARKS`] that are no marks. Words 27 to 30 are kept for parts of a later version.
 
 /// The version of the C interface. It rises when a word of the layout or a call changes its meaning.
-pub const VERSION: u32 = 4;
+pub const VERSION: u32 = 5;
 /// The number of words of a packed state.
 pub const STATE_WORDS: usize = 256;
 /// The number of durations that a run is lent: one for each opcode, and one for a step that fetches no first word.
@@ -33,6 +33,8 @@ pub const TIMER_B: usize = 23;
 pub const REMAINDER_A: usize = 24;
 /// The remainder of timer B.
 pub const REMAINDER_B: usize = 25;
+/// The memory fault status.
+pub const MFS: usize = 26;
 /// The high word of the step counter.
 pub const COUNTER_HIGH: usize = 32;
 /// The low word of the step counter.

@@ -1,8 +1,8 @@
 //! The state with named parts, and its packed form.
 
 use crate::layout::{
-    A_RUNS, B_RUNS, COUNTER_HIGH, COUNTER_LOW, ENABLED, FT, HOLD, IC, MARKS, MK, PI, REMAINDER_A,
-    REMAINDER_B, STATE_WORDS, SW, TIMER_A, TIMER_B,
+    A_RUNS, B_RUNS, COUNTER_HIGH, COUNTER_LOW, ENABLED, FT, HOLD, IC, MARKS, MFS, MK, PI,
+    REMAINDER_A, REMAINDER_B, STATE_WORDS, SW, TIMER_A, TIMER_B,
 };
 
 /// The processor's state, without memory, page registers and ports.
@@ -23,6 +23,9 @@ pub struct State {
     pub pi: u16,
     /// The faults.
     pub ft: u16,
+    /// The memory fault status: which page register refused the most recent access that set a bit of FT. Bits 0 to 3 are the page,
+    /// bit 11 is set for the instruction set, bits 12 to 15 are the group; a reset makes it 0.
+    pub mfs: u16,
     /// Whether interrupts are enabled.
     pub enabled: bool,
     /// The hold mark: no interrupt is entered in the next step.
@@ -70,6 +73,7 @@ impl State {
         words[TIMER_B] = self.timer_b;
         words[REMAINDER_A] = self.remainder_a;
         words[REMAINDER_B] = self.remainder_b;
+        words[MFS] = self.mfs;
         words[COUNTER_HIGH] = (self.counter >> 16) as u16;
         words[COUNTER_LOW] = (self.counter & 0xFFFF) as u16;
         words
@@ -93,6 +97,7 @@ impl State {
             timer_b: words[TIMER_B],
             remainder_a: words[REMAINDER_A],
             remainder_b: words[REMAINDER_B],
+            mfs: words[MFS],
             a_runs: marked(A_RUNS),
             b_runs: marked(B_RUNS),
             counter: u32::from(words[COUNTER_HIGH]) << 16 | u32::from(words[COUNTER_LOW]),

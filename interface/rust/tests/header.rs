@@ -51,6 +51,7 @@ fn numbers_of_the_header() {
         ("TIMER_B", layout::TIMER_B),
         ("REMAINDER_A", layout::REMAINDER_A),
         ("REMAINDER_B", layout::REMAINDER_B),
+        ("MFS", layout::MFS),
         ("COUNTER_HIGH", layout::COUNTER_HIGH),
         ("COUNTER_LOW", layout::COUNTER_LOW),
     ];

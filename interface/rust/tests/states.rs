@@ -44,7 +44,8 @@ fn various() -> State {
         timer_b: 0x2007,
         remainder_a: 0x2008,
         remainder_b: 0x2009,
-        counter: 0x200A_200B,
+        mfs: 0x200A,
+        counter: 0x200B_200C,
         ..State::default()
     }
 }
@@ -52,12 +53,12 @@ fn various() -> State {
 #[test]
 fn packed_words() {
     let mut words = [0; 256];
-    words[..26].copy_from_slice(&[
+    words[..27].copy_from_slice(&[
         0x100, 0x101, 0x102, 0x103, 0x104, 0x105, 0x106, 0x107, 0x108, 0x109, 0x10A, 0x10B, 0x10C,
         0x10D, 0x10E, 0x10F, 0x2001, 0x2002, 0x2003, 0x2004, 0x2005, 0, 0x2006, 0x2007, 0x2008,
-        0x2009,
+        0x2009, 0x200A,
     ]);
-    words[32..34].copy_from_slice(&[0x200A, 0x200B]);
+    words[32..34].copy_from_slice(&[0x200B, 0x200C]);
     assert_eq!(various().pack(), words);
     assert_eq!(State::unpack(&various().pack()), various());
 }
@@ -86,7 +87,7 @@ fn run_of_no_steps() {
         assert_eq!(machine.run(0), Ok(()));
         let mut words = before.state();
         words[21] = marks;
-        words[26..32].fill(0);
+        words[27..32].fill(0);
         words[34..].fill(0);
         assert_eq!(machine, Machine { words: words.to_vec(), ..before.clone() });
         assert_eq!(State::unpack(&before.state()).pack(), words);

@@ -31,7 +31,7 @@ fn lent(number: u16) -> usize {
 fn allowed(kind: u8, number: u16, word: u16) -> bool {
     let index = usize::from(number);
     match kind {
-        b'S' => index < 28,
+        b'S' => index < 29,
         b'M' => index < PROGRAM_WORDS,
         b'P' => index < PAGE_REGISTERS,
         b'O' => index < PORTS,
@@ -110,7 +110,7 @@ impl Setup {
     }
 }
 
-/// Sets one of the 28 words of the state.
+/// Sets one of the 29 words of the state.
 fn set_state(state: &mut State, number: usize, word: u16) {
     let wide = u32::from(word);
     match number {
@@ -129,7 +129,8 @@ fn set_state(state: &mut State, number: usize, word: u16) {
         24 => state.counter = (wide << 16) | (state.counter & 0xFFFF),
         25 => state.counter = (state.counter & 0xFFFF_0000) | wide,
         26 => state.remainder_a = word,
-        _ => state.remainder_b = word,
+        27 => state.remainder_b = word,
+        _ => state.mfs = word,
     }
 }
 
@@ -144,6 +145,14 @@ fn time_line(state: &State) -> String {
 /// The line of the remainders.
 fn remainder_line(state: &State) -> String {
     format!("remainders {} {}\n", state.remainder_a, state.remainder_b)
+}
+
+/// The line of the memory fault status, where it is not 0.
+fn status_line(state: &State) -> String {
+    match state.mfs {
+        0 => String::new(),
+        status => format!("mfs {status:04X}\n"),
+    }
 }
 
 /// The entries of the words that have changed.
@@ -163,6 +172,7 @@ fn case(number: u32, mut setup: Setup, steps: u32) -> String {
     if setup.timed {
         text += &remainder_line(&setup.state);
     }
+    text += &status_line(&setup.state);
     text += &changes('M', &before.memory, &setup.memory);
     text += &changes('P', &before.pages, &setup.pages);
     text + &changes('O', &before.ports, &setup.ports)

@@ -112,6 +112,11 @@ impl Case {
         self.entry('S', 26, a).entry('S', 27, b)
     }
 
+    /// The memory fault status.
+    pub(crate) fn mfs(self, word: u16) -> Case {
+        self.entry('S', 28, word)
+    }
+
     /// All durations.
     pub(crate) fn durations(self, tenths: u16) -> Case {
         self.entry('D', 257, tenths)
@@ -137,9 +142,14 @@ impl Case {
         self.entry('P', 256 + 16 * group + page, register)
     }
 
+    /// An instruction page register of any group.
+    pub(crate) fn group_fetch_page(self, group: u16, page: u16, register: u16) -> Case {
+        self.entry('P', 16 * group + page, register)
+    }
+
     /// Page 0 of an address state as it is for fetches, open to every key.
     pub(crate) fn group_fetch(self, group: u16) -> Case {
-        self.entry('P', 16 * group, 0xF000)
+        self.group_fetch_page(group, 0, 0xF000)
     }
 
     /// A port.

@@ -43,8 +43,12 @@ const KNOWN: &[(u16, &str)] = &[
     (0xD2FF, "ROPR group 15 page 15"),
 ];
 
-/// Commands that the machine does not have: left out of 5.1, reserved, or beside a known one.
-const UNKNOWN: &[u16] = &[
+/// The command that reads the memory fault status. The group of that status has more of it.
+const RMFS: u16 = 0xA00D;
+
+/// Commands that the machine does not have: left out of 5.1, reserved, or beside a known one; and
+/// in its place among them RMFS.
+const OTHERS: &[u16] = &[
     0x0400, 0x0800, 0x1FFF, 0x2006, 0x2007, 0x2008, 0x2009, 0x200A, 0x200B, 0x200C, 0x200D, 0x200F,
     0x2010, 0x20FF, 0x2100, 0x3000, 0x4000, 0x4001, 0x4002, 0x4003, 0x4007, 0x400B, 0x400F, 0x4010,
     0x5000, 0x50FF, 0x5300, 0x7FFF, 0x8400, 0x9000, 0x9FFF, 0xA001, 0xA002, 0xA003, 0xA005, 0xA00B,
@@ -116,9 +120,10 @@ pub(crate) fn cases(cases: &mut Vec<Case>) {
         let case = command(code.wrapping_sub(0x0100), format!("XIO {code:04X} {name} by index"));
         cases.push(case.memory(0x0100, &[0x4845]).registers(5, &[0x0100]).mk(0));
     }
-    for &code in UNKNOWN {
-        cases.push(command(code, format!("XIO {code:04X} unknown")).mk(0));
-        cases.push(command(code, format!("XIO {code:04X} unknown")).mk(0).key(3).also("key 3"));
+    for &code in OTHERS {
+        let name = if code == RMFS { "RMFS" } else { "unknown" };
+        cases.push(command(code, format!("XIO {code:04X} {name}")).mk(0));
+        cases.push(command(code, format!("XIO {code:04X} {name}")).mk(0).key(3).also("key 3"));
     }
     let case = command(0x1E00, "XIO 2006 unknown by index".into()).mk(0);
     cases.push(case.memory(0x0100, &[0x4845]).registers(5, &[0x0206]));

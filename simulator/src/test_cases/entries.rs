@@ -126,7 +126,9 @@ fn sequences(cases: &mut Vec<Case>) {
     cases.push(both("timer B passes FFFF").timers(0, 0xFFFF).counted(9).steps(2));
     cases.push(both("both timers pass FFFF").timers(0xFFFF, 0xFFFF).counted(9).steps(3));
     cases.push(both("timers do not run").timers(0xFFFF, 0xFFFF).counter(9).marks(1).steps(3));
-    cases.push(both("timer B does not come to its end in two steps").timers(0, 0xFFFF).counted(7).steps(2));
+    cases.push(
+        both("timer B does not come to its end in two steps").timers(0, 0xFFFF).counted(7).steps(2),
+    );
     let fault = Case::on("a fault, then interrupt 1", &[0x4400]).mk(0x4000).steps(2);
     cases.push(fault.memory(34, &[LINKAGE, SERVICE]).memory(SERVICE, &NEW));
     let fault = Case::on("interrupt 1 with a refused word pends again", &[0xFF00]).pi(0x4000);

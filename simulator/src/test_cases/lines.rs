@@ -50,7 +50,7 @@ const MALFORMED: &[&str] = &[
     "R 0000 0000",
     "M 4000 0000",
     "M FFFF 0000",
-    "S 001C 0000",
+    "S 001D 0000",
     "P 0200 0000",
     "O 0400 0000",
     "L 0004 0000",
@@ -90,6 +90,27 @@ const MALFORMED_DURATIONS: &[&str] = &[
     "L 0103 0000",
 ];
 
+/// The same of the memory fault status.
+const MALFORMED_STATUS: &[&str] = &[
+    "S 001D 0000",
+    "S 001D C005",
+    "S 001E 0000",
+    "S 001F FFFF",
+    "S 011C 0000",
+    "S 101C 0000",
+    "S C005 001C",
+    "S 001c C005",
+    "S 001C c005",
+    "S 001C C00",
+    "S 001C C0055",
+    "S 001C C005 ",
+    "S 001CC005",
+    "S\t001C C005",
+    "s 001C C005",
+    "F 001C C005",
+    "mfs C005",
+];
+
 /// Writes lines.
 fn write(lines: &[&str], text: &mut String) {
     for line in lines {
@@ -112,7 +133,7 @@ pub(crate) fn left_open() -> Case {
 }
 
 /// The same with malformed lines of durations: a case without any duration, one with two, and one
-/// that is never run.
+/// that is not yet run.
 pub(crate) fn malformed_durations(text: &mut String) {
     text.push_str("# malformed durations within a case without any\nS 001A 0063\n");
     write(MALFORMED_DURATIONS, text);
@@ -120,5 +141,22 @@ pub(crate) fn malformed_durations(text: &mut String) {
     text.push_str("# malformed durations within a case\nD 0101 0025\nD 0000 004B\n");
     write(MALFORMED_DURATIONS, text);
     text.push_str("G 0000 0002\n");
-    text.push_str("# a case without its run, and a last line without its end\nD 0000 0001\nfoo");
+    text.push_str("# a case without its run, and a last line without its end\nD 0000 0001\nfoo\n");
+}
+
+/// The run of that case; the entry that it has already is of a duration.
+pub(crate) fn left_open_timed() -> Case {
+    Case::new("the case of a duration without its run, run now")
+}
+
+/// The same with malformed lines of the memory fault status: a case without a status, one with a
+/// status, and one that is never run.
+pub(crate) fn malformed_status(text: &mut String) {
+    text.push_str("# malformed words of the state within a case without a status\nS 0000 0001\n");
+    write(MALFORMED_STATUS, text);
+    text.push_str("G 0000 0002\n");
+    text.push_str("# malformed words of the state within a case with a status\nS 001C 1234\n");
+    write(MALFORMED_STATUS, text);
+    text.push_str("G 0000 0002\n");
+    text.push_str("# a case without its run, and a last line without its end\nS 001C 0001\nfoo");
 }

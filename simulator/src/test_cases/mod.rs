@@ -14,13 +14,14 @@ mod opcodes;
 mod programs;
 mod readings;
 mod rules;
+mod status;
 mod table;
 mod wraps;
 
 pub use answer::answers;
 use case::Case;
 
-/// The cases of all groups but that of durations.
+/// The cases of all groups but those of durations and of the memory fault status.
 fn cases() -> Vec<Case> {
     let mut cases = Vec::new();
     known::cases(&mut cases);
@@ -44,6 +45,13 @@ fn timed_cases() -> Vec<Case> {
     cases
 }
 
+/// The cases of the memory fault status, after the one that is left open before them.
+fn status_cases() -> Vec<Case> {
+    let mut cases = vec![lines::left_open_timed()];
+    status::cases(&mut cases);
+    cases
+}
+
 /// The lines of some cases, numbered from one on.
 fn write(cases: &[Case], first: usize, text: &mut String) {
     for (number, case) in (first..).zip(cases) {
@@ -51,13 +59,16 @@ fn write(cases: &[Case], first: usize, text: &mut String) {
     }
 }
 
-/// The input: cases, then malformed lines within a case of their own; then the same of durations.
+/// The input: cases, then malformed lines within one case of their own; then the same of durations,
+/// within two; then of the memory fault status.
 pub fn input() -> String {
     let mut text = String::from("# Cases (docs/TEST-CASES.md), written by the second simulator.\n");
-    let cases = cases();
+    let (cases, timed) = (cases(), timed_cases());
     write(&cases, 1, &mut text);
     lines::malformed(&mut text);
-    write(&timed_cases(), cases.len() + 2, &mut text);
+    write(&timed, cases.len() + 2, &mut text);
     lines::malformed_durations(&mut text);
+    write(&status_cases(), cases.len() + timed.len() + 4, &mut text);
+    lines::malformed_status(&mut text);
     text
 }

@@ -4,6 +4,8 @@ use simulator::{reset, run, State, DURATIONS};
 
 /// Where the tests put their code.
 pub const CODE: u16 = 0x0100;
+/// The bits of FT that the address lookup sets.
+pub const LOOKUP: u16 = 0x8080;
 
 /// A machine with everything that is lent to it.
 #[derive(Clone, Debug, PartialEq)]
@@ -151,6 +153,13 @@ impl Bench {
         self
     }
 
+    /// Checks the memory fault status.
+    #[track_caller]
+    pub fn mfs(self, mfs: u16) -> Bench {
+        assert!(self.state.mfs == mfs, "MFS is {:04X}, not {mfs:04X}", self.state.mfs);
+        self
+    }
+
     /// Checks timer A and its remainder.
     #[track_caller]
     pub fn a(self, timer: u16, remainder: u16) -> Bench {
@@ -174,11 +183,15 @@ impl Bench {
     }
 }
 
-/// Makes one step of 100 tenths and checks that it changes nothing but what a fault changes.
+/// Makes one step of 100 tenths and checks that it changes nothing but what a fault changes. The
+/// memory fault status changes where the lookup refused, to one of the running address state.
 #[track_caller]
 pub fn refused(before: Bench, ft: u16, ic: u16) -> Bench {
     let after = before.clone().go();
     let mut expected = before;
+    if ft & LOOKUP != 0 {
+        expected.state.mfs = (after.state.mfs & 0xF010) | (expected.state.sw & 0xF);
+    }
     expected.state.ft |= ft;
     expected.state.pi |= 0x4000;
     expected.state.ic = ic;

@@ -9,7 +9,7 @@ use std::sync::OnceLock;
 
 /// Places in the words of the state.
 pub const IC: usize = 16;
-const SW: usize = 17;
+pub const SW: usize = 17;
 pub const MK: usize = 18;
 pub const PI: usize = 19;
 pub const FT: usize = 20;
@@ -20,6 +20,10 @@ pub const TIMERS: usize = 22;
 const COUNTER: usize = 24;
 /// The remainder of timer A, and after it that of timer B.
 pub const REMAINDERS: usize = 26;
+/// The memory fault status.
+pub const STATUS: usize = 28;
+/// How many words of the state there are.
+const WORDS: usize = 29;
 
 /// The commands of 5.1 that the machine has: the first and the last code of each.
 pub const COMMANDS: [(u16, u16); 13] = [
@@ -32,7 +36,7 @@ pub const COMMANDS: [(u16, u16); 13] = [
     (0x8000, 0x83FF),
     (0xA000, 0xA000),
     (0xA004, 0xA004),
-    (0xA00E, 0xA00F),
+    (0xA00D, 0xA00F),
     (0xC00A, 0xC00A),
     (0xC00E, 0xC00E),
     (0xD100, 0xD2FF),
@@ -50,6 +54,17 @@ pub enum Access {
     Read,
     Write,
 }
+
+impl Access {
+    /// The memory fault status of an address whose page register refuses in a group.
+    pub fn status(self, group: u16, address: u16) -> u16 {
+        (address & 0xF000) | if self == Access::Fetch { 0x0010 } else { 0 } | (group & 0xF)
+    }
+}
+
+/// What an instruction is given up for: the bit of FT, and the memory fault status where the lookup
+/// refuses.
+pub type Fault = (u16, Option<u16>);
 
 /// A word of memory that an instruction touches; one that POPM skips is neither read nor written.
 pub struct Touch {
@@ -75,7 +90,7 @@ pub enum Stage {
 /// are known where the case is timed, which is where an entry names a duration.
 pub struct Case {
     pub title: String,
-    pub before: [u16; 28],
+    pub before: [u16; WORDS],
     memory: BTreeMap<u16, u16>,
     pages: [u16; 512],
     pub durations: Vec<u16>,
@@ -83,7 +98,7 @@ pub struct Case {
     pub lent: [usize; 4],
     pub steps: u32,
     pub answer: u32,
-    pub after: [u16; 28],
+    pub after: [u16; WORDS],
     pub changed: BTreeMap<(char, u16), u16>,
 }
 
@@ -149,7 +164,7 @@ pub fn refused_cases() -> &'static [Case] {
 impl Case {
     /// A case with everything as after reset.
     fn new() -> Case {
-        let mut before = [0; 28];
+        let mut before = [0; WORDS];
         before[MARKS] = 0x000C;
         Case {
             title: String::new(),
@@ -161,7 +176,7 @@ impl Case {
             lent: [0x4000, 0x0200, 0x0400, 0x0101],
             steps: 0,
             answer: 0,
-            after: [0; 28],
+            after: [0; WORDS],
             changed: BTreeMap::new(),
         }
     }
@@ -201,6 +216,7 @@ impl Case {
             self.after[place] = hex(word);
         }
         self.end_times(&lines[5..]);
+        self.end_status(&lines[6 + usize::from(self.timed)..]);
         let changes = lines[6..].iter().filter(|line| "MPO".contains(&line[..1]));
         self.changed = changes.map(|line| entry(line)).map(|(k, n, w)| ((k, n), w)).collect();
     }
@@ -217,6 +233,14 @@ impl Case {
         for (place, number) in (REMAINDERS..).zip(next.into_iter().flat_map(|next| next.split(' ')))
         {
             self.after[place] = number.parse().expect("a remainder");
+        }
+    }
+
+    /// Takes the line of the memory fault status, which stands first where it is not 0.
+    fn end_status(&mut self, lines: &[&str]) {
+        if let Some(word) = lines.first().and_then(|line| line.strip_prefix("mfs ")) {
+            self.after[STATUS] = hex(word);
+            assert_ne!(self.after[STATUS], 0, "{}: a status of 0", self.title);
         }
     }
 
@@ -294,9 +318,10 @@ impl Case {
         }
     }
 
-    /// The same for the running key and group.
-    pub fn refused(&self, access: Access, address: u16) -> Option<u16> {
-        self.refusal(self.page(access, address), self.key(), access, address)
+    /// The fault of the lookup for the running key and group.
+    pub fn refused(&self, access: Access, address: u16) -> Option<Fault> {
+        let bit = self.refusal(self.page(access, address), self.key(), access, address)?;
+        Some((bit, Some(access.status(self.group(), address))))
     }
 
     /// The word of memory that a page register leads to, before the run.
@@ -393,37 +418,38 @@ impl Case {
         vec![from, Touch { address: self.before[a], read: false, write: true }]
     }
 
-    /// How far the instruction comes by the page registers and the key, and the bit of FT.
-    pub fn expected(&self) -> (Stage, u16) {
-        if let Some(bit) = self.refused(Access::Fetch, self.ic()) {
-            return (Stage::FirstFetch, bit);
+    /// How far the instruction comes by the page registers and the key, and what it is
+    /// given up for.
+    pub fn expected(&self) -> (Stage, Fault) {
+        if let Some(fault) = self.refused(Access::Fetch, self.ic()) {
+            return (Stage::FirstFetch, fault);
         }
         let first = self.fetched(0);
         let Some(form) = form(first) else {
-            return (Stage::Illegal, 0x0040);
+            return (Stage::Illegal, (0x0040, None));
         };
         if form.privileged() && self.key() != 0 {
-            return (Stage::Privileged, 0x0020);
+            return (Stage::Privileged, (0x0020, None));
         }
         let second = self.refused(Access::Fetch, self.ic().wrapping_add(1));
-        if let (2, Some(bit)) = (length(first), second) {
-            return (Stage::SecondFetch, bit);
+        if let (2, Some(fault)) = (length(first), second) {
+            return (Stage::SecondFetch, fault);
         }
         if form.opcode == 0x48 && !known(self.direct(first)) {
-            return (Stage::Command, 0x0400);
+            return (Stage::Command, (0x0400, None));
         }
         let pointer = self.refused(Access::Read, self.direct(first));
-        if let (true, Some(bit)) = (form.indirect(), pointer) {
-            return (Stage::Pointer, bit);
+        if let (true, Some(fault)) = (form.indirect(), pointer) {
+            return (Stage::Pointer, fault);
         }
         match self.operand_refusal(first, form) {
-            Some(bit) => (Stage::Operand, bit),
-            None => (Stage::Done, 0),
+            Some(fault) => (Stage::Operand, fault),
+            None => (Stage::Done, (0, None)),
         }
     }
 
-    /// The bit of FT of the first refused access to the operand.
-    fn operand_refusal(&self, first: u16, form: Form) -> Option<u16> {
+    /// The fault of the first refused access to the operand.
+    fn operand_refusal(&self, first: u16, form: Form) -> Option<Fault> {
         self.touches(first, form).iter().find_map(|touch| {
             let refused = |used: bool, access| used.then(|| self.refused(access, touch.address));
             let read = refused(touch.read, Access::Read).flatten();

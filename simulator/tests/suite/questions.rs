@@ -57,6 +57,7 @@ pub fn used() -> Bench {
         mk: 0xFFFF,
         pi: 0x4321,
         ft: 0x8420,
+        mfs: 0xC005,
         enabled: true,
         hold: true,
         timer_a: 0x1234,

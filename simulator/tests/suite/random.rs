@@ -1,6 +1,6 @@
 //! Many random machines: faults change nothing else, runs may be cut up, nothing panics.
 
-use crate::bench::{Bench, Numbers};
+use crate::bench::{Bench, Numbers, LOOKUP};
 use simulator::step;
 
 /// A machine with random words everywhere and page registers that admit most accesses.
@@ -36,9 +36,13 @@ fn without_calls(mut bench: Bench) -> Bench {
     bench
 }
 
-/// The machine after a fault: IC, FT, PI, hold and the tick aside nothing changes.
+/// The machine after a fault: IC, FT, PI, hold, the tick and, where the lookup refused, the memory
+/// fault status aside nothing changes.
 fn only_a_fault(before: &Bench, after: &Bench) -> bool {
     let mut expected = before.state.clone();
+    if after.state.ft & LOOKUP != 0 {
+        expected.mfs = (after.state.mfs & 0xF010) | (expected.sw & 0xF);
+    }
     (expected.ic, expected.ft, expected.pi) = (after.state.ic, after.state.ft, after.state.pi);
     (expected.counter, expected.hold) = (after.state.counter, false);
     (expected.timer_a, expected.timer_b) = (after.state.timer_a, after.state.timer_b);

@@ -195,7 +195,7 @@ fn remainders_are_written_where_a_duration_is_named() {
 #[test]
 fn malformed_durations_change_nothing() {
     let times = "ta 0000 tb 0000 marks 000C count 0";
-    let lines = ["D 0102 0000", "D FFFF 0000", "L 0003 0102", "L 0004 0000", "S 001C 0000"];
+    let lines = ["D 0102 0000", "D FFFF 0000", "L 0003 0102", "L 0004 0000", "S 001D 0000"];
     for line in lines.into_iter().chain(["d 0000 0000", "D 0000 00ff", "D 0000 000"]) {
         let found = written(&format!("{line}\nG 0000 0000\n"));
         assert_eq!(found, ["malformed line 1", "case 1 answer 0", "steps 0", times], "{line}");

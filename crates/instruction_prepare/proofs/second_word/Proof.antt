@@ -1,4 +1,4 @@
--- Written by tools/prove.py from answers/instruction_prepare.py: answer 5de3c9354765, proof e526bd50d81f.
+-- Written by tools/prove.py from answers/instruction_prepare.py: answer be0b976407ec, proof 2fae7399e6f3.
 -- `instruction_prepare::second_word` meets its contract. Assumes nothing.
 use Prim.Native.Nat.{_+_}
 use Rattle.instruction_prepare.proofs.second_word.Statement.{statement}
@@ -25,7 +25,7 @@ returns-2 c = rw (eq-eqb _ _ (c .before .before .before .if1 .taken), lookup-nex
 
 returns-3 : tie.Need-returns-3
 unfolding gotAt
-returns-3 c = rw (eq-eqb _ _ (c .before .before .if1 .taken), lookup-next _ _ _ _ _ (c .before .before .before .before .before .args .ic) (omega arith) _ (c .before .before .before .before .before .pre .2), le-ltb (c .before .before .before .before .before .args .at + 1) (length (c .before .before .before .before .before .args .memory .now)) (omega arith)) refl
+returns-3 c = rw (eq-eqb _ _ (c .before .before .before .if1 .taken), lookup-next _ _ _ _ _ (c .before .before .before .before .before .before .args .ic) (omega arith) _ (c .before .before .before .before .before .before .pre .2), le-ltb (c .before .before .before .before .before .before .args .at + 1) (length (c .before .before .before .before .before .before .args .memory .now)) (omega arith), ← c .refuse .ensures) refl
 
 returns-4 : tie.Need-returns-4
 unfolding gotAt
@@ -34,4 +34,5 @@ returns-4 c = rw (ne-eqb _ _ (c .if1 .left))
 pub second-word-spec : {M : Type 1} → statement M
 second-word-spec =
     tie.close
-    (tie.spec (λ c κs. search needs) (λ c κs. search needs) returns add-next (λ c. search needs) (λ c. search needs) returns-2 returns-3 returns-4)
+    (tie.spec (λ c κs. search needs) (λ c κs. search needs) returns add-next (λ c. search needs) (λ c. search needs) returns-2 (λ c κs. search needs)
+    returns-3 returns-4)

@@ -1,4 +1,4 @@
--- Written by tools/prove.py from answers/packed.py: answer 5a2511773b5e, proof a24ddf40f191.
+-- Written by tools/prove.py from answers/packed.py: answer 5a2511773b5e, proof b6ade91d9d31.
 -- `packed::pack` meets its contract. Assumes nothing.
 use Rattle.packed.proofs.PackLaws.{copied-whole}
 use Rattle.packed.proofs.pack.Statement.{statement}
@@ -27,5 +27,5 @@ pack-spec =
     tie.close
     (tie.spec (λ c. search needs) (λ c. search needs) (λ c. search needs) (λ c. search needs) (λ c. search needs) (λ c κs. search needs)
     (λ c. search needs) (λ c. search needs) (λ c. search needs) (λ c. search needs) (λ c. search needs) (λ c. search needs) (λ c. search needs)
-    (λ c. search needs) (λ c. search needs) (λ c. search needs) (λ c. search needs) (λ c. search needs) slice-aggregate-copy-2 copy-requires
-    (λ c. search needs) copy-requires-2 (λ c. search needs) returns)
+    (λ c. search needs) (λ c. search needs) (λ c. search needs) (λ c. search needs) (λ c. search needs) (λ c. search needs) slice-aggregate-copy-2
+    copy-requires (λ c. search needs) copy-requires-2 (λ c. search needs) returns)

@@ -1,4 +1,4 @@
--- Written by tools/prove.py from answers/command.py: answer 84bc795b124d, proof 4aa8bafd5436.
+-- Written by tools/prove.py from answers/command.py: answer d5d5faa17fc6, proof fc4e1969645e.
 -- `command::xio::core_output` meets its contract. Assumes nothing.
 use Rattle.choice.proofs.SelectLaws.{otherwise}
 use Rattle.command.proofs.CommandLaws.{unlisted}
@@ -19,7 +19,7 @@ returns c = λ s regs g o n. rw (c .before .match .keys1) (ap (λ c. becomes g o
 
 returns-2 : tie.Need-returns-2
 unfolding coreCommand becomes governed
-returns-2 c = λ s regs g o n. rw (c .before .match .keys2) (ap (λ c. becomes g o (withProcessor s (joined c regs))) (c .set-pending .ensures))
+returns-2 c = λ s regs g o n. rw (c .before .match .keys2) (ap (λ c. becomes g o (withProcessor s (joined c regs))) (c .clear-pending .ensures))
 
 returns-3 : tie.Need-returns-3
 unfolding coreCommand becomes governed
@@ -43,7 +43,7 @@ returns-7 c = λ s regs g o n. rw (c .before .match .keys7) (ap (λ c. becomes g
 
 returns-8 : tie.Need-returns-8
 unfolding coreCommand becomes governed
-returns-8 c = λ s regs g o n. sym (otherwise (c .before .args .command) ((0x2000, _) ∷ (0x2001, _) ∷ (0x2002, _) ∷ (0x2003, _) ∷ (0x2004, _) ∷ (0x2005, _) ∷ (0x200E, _) ∷ []) _ (c .match .rest) ∙ unlisted (leb 0x8000) (c .before .args .command) ((0xA000, _) ∷ (0xA004, _) ∷ (0xA00E, _) ∷ (0xA00F, _) ∷ []) _ refl (lt-leb _ _ (c .before .pre)))
+returns-8 c = λ s regs g o n. sym (otherwise (c .before .args .command) ((0x2000, _) ∷ (0x2001, _) ∷ (0x2002, _) ∷ (0x2003, _) ∷ (0x2004, _) ∷ (0x2005, _) ∷ (0x200E, _) ∷ []) _ (c .match .rest) ∙ unlisted (leb 0x8000) (c .before .args .command) ((0xA000, _) ∷ (0xA004, _) ∷ (0xA00D, _) ∷ (0xA00E, _) ∷ (0xA00F, _) ∷ []) _ refl (lt-leb _ _ (c .before .pre)))
 
 pub core-output-spec : {M : Type 1} → statement M
 core-output-spec =

@@ -1,4 +1,4 @@
--- Written by tools/prove.py from answers/test_case_line.py: answer cc288c611980, proof 4e4c52f3b744.
+-- Written by tools/prove.py from answers/test_case_line.py: answer deb0a0bd1aa0, proof e154538fcde5.
 -- `test_case_line::set::place` meets its contract. Assumes nothing.
 use Rattle.choice.proofs.SelectLaws.{otherwise}
 use Rattle.test_case_line.proofs.set.place.Statement.{statement}
@@ -25,7 +25,11 @@ returns-4 c = rw (c .match .keys4)
 
 returns-5 : tie.Need-returns-5
 unfolding placeOf
-returns-5 c = sym (otherwise (c .before .args .number) ((24, _) ∷ (25, _) ∷ (26, _) ∷ (27, _) ∷ []) _ (c .match .rest))
+returns-5 c = rw (c .match .keys5)
+
+returns-6 : tie.Need-returns-6
+unfolding placeOf
+returns-6 c = sym (otherwise (c .before .args .number) ((24, _) ∷ (25, _) ∷ (26, _) ∷ (27, _) ∷ (28, _) ∷ []) _ (c .match .rest))
 
 pub place-spec : {M : Type 1} → statement M
-place-spec = tie.close (tie.spec returns returns-2 returns-3 returns-4 returns-5)
+place-spec = tie.close (tie.spec returns returns-2 returns-3 returns-4 returns-5 returns-6)
