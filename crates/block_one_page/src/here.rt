@@ -14,7 +14,7 @@ use page::lookup::look_up;
 use page::{Access, Place};
 
 // Whether the operation was done, and the core after it.
-#[derive(Drop)]
+#[derive(Clone, Copy)]
 pub struct Tried {
     pub done: bool,
     pub core: Core,

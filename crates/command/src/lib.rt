@@ -1,4 +1,5 @@
 // XIO (5.1), the privileged operation that carries out a command. The timer commands, which see and set the clock, are apart.
+#![tactic(auto)]
 ghost use Rattle.std.specs.Prelude.{◌≡◌, false, length};
 ghost use Rattle.machine.specs.declared.State.{State};
 ghost use Rattle.machine.specs.State.{joined, with_processor};
@@ -13,7 +14,7 @@ pub mod timers;
 mod xio;
 
 // The command is done, and leaves this core; or it is refused, and nothing is changed.
-#[derive(Drop)]
+#[derive(Clone, Copy)]
 pub enum Governed {
     Done(Core),
     Refused(Refusal),

@@ -1,4 +1,5 @@
 // What an operation on at most three words does: its scalars, and how its registers are filled.
+#![tactic(auto)]
 ghost use Rattle.std.specs.Prelude.{◌≡◌};
 ghost use Rattle.machine.specs.State.{cs_of};
 ghost use Rattle.machine.specs.Machine.{next_of};
@@ -13,7 +14,7 @@ pub mod shapes;
 // The first register that gets a value, how many get one (0 to 3) and the values; IC, CS and PI afterwards; three words to store, 0 where there is none.
 // A contract that says `worked regs r ≡ ..`, for any registers, gives all that the operation does. Open is what does nothing: the values past `count`,
 // `first` where `count` is 0, multiples of 16 in `first`, and how far `count` is above 3.
-#[derive(Drop)]
+#[derive(Clone, Copy)]
 pub struct Work {
     pub first: u16,
     pub count: u16,

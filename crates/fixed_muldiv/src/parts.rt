@@ -7,7 +7,7 @@ use fixed_add::narrow::{narrow16, narrow32};
 use fixed_add::{Double, Single};
 
 // A whole number as a sign and a magnitude.
-#[derive(Drop)]
+#[derive(Clone, Copy)]
 pub(crate) struct Magnitude {
     pub neg: bool,
     pub size: u32,

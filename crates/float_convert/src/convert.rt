@@ -8,7 +8,7 @@ ghost use Rattle.float_convert.specs.Convert.{too_large, fixed_of, float_of};
 use float::{Float, mantissa};
 
 // An integer, or what the register held before an overflow.
-#[derive(Drop)]
+#[derive(Clone, Copy)]
 pub struct Fixed {
     pub value: u32,
     pub overflow: bool,

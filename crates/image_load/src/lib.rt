@@ -1,4 +1,5 @@
 // The loader (Scope, "Image"): the questions, then reset, then the bodies.
+#![tactic(auto)]
 ghost use Rattle.std.specs.Prelude.{◌≡◌, List, ℕ, ◌+◌, ◌*◌, ◌≤◌, length};
 ghost use Rattle.std.proofs.lemmas.List.Edits.{sets};
 ghost use Rattle.machine.specs.State.{with_regs};
@@ -12,7 +13,7 @@ use machine::{Core, Faults, State};
 use reset::reset;
 
 // What loading hands back.
-#[derive(Drop)]
+#[derive(Clone, Copy)]
 pub struct Loaded {
     pub answer: Loading,
     pub state: State,

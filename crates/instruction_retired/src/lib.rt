@@ -1,4 +1,5 @@
 // What an instruction comes to: the core after it, whether the choice of an interrupt stays as it was, and a timer command that is still to be done.
+#![tactic(auto)]
 ghost use Rattle.std.specs.Prelude.{◌≡◌, false, ℕ, eqb};
 ghost use Rattle.machine.specs.Step.{faulted};
 ghost use Rattle.instruction_retired.specs.Settled.{retired_with};
@@ -9,7 +10,7 @@ use page::Refusal;
 
 // The core after an instruction. Where it is settled, no other interrupt is to be chosen than before, by the same key and address state; it does not
 // have to be (`Lasting`). A timer command, with the first word of its instruction, is handed back undone: an instruction has no clock. 0 is none.
-#[derive(Drop)]
+#[derive(Clone, Copy)]
 pub struct Retired {
     pub settled: bool,
     pub command: u16,

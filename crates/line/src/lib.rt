@@ -1,4 +1,5 @@
 // Mnemonic lines (change request 2): the words of an instruction as a line, and a line as words.
+#![tactic(auto)]
 ghost use Rattle.std.specs.Prelude.{◌≡◌};
 ghost use Rattle.line.specs.Lines.{line_of, words_from, read_line, Shows};
 
@@ -11,14 +12,14 @@ use line_table::name::put_name;
 use line_table::{by_name, by_word};
 
 // What is printed: a line of so many bytes, or none, as the first word begins no legal instruction.
-#[derive(Drop)]
+#[derive(Clone, Copy)]
 pub enum Printed {
     Length(usize),
     Illegal,
 }
 
 // What a line is read as: one word, two words, or why it is refused.
-#[derive(Drop)]
+#[derive(Clone, Copy)]
 pub enum Words {
     One(u16),
     Two(u16, u16),

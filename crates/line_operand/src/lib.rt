@@ -1,10 +1,11 @@
 // Operands of mnemonic lines: their places in an instruction, their shapes, and how they are spelt.
+#![tactic(auto)]
 pub mod fields;
 pub mod print;
 pub mod shapes;
 
 // The place of a field: bits 12 to 15, 8 to 11, 8 to 15, 6 and 7 or 0 to 5 of the first word, or the second word.
-#[derive(Drop)]
+#[derive(Clone, Copy)]
 pub enum Place {
     Nowhere,
     Lower,
@@ -16,7 +17,7 @@ pub enum Place {
 }
 
 // How an operand is spelt: "R" and a number, a number, a displacement, four hexadecimal digits, an index register, or not at all.
-#[derive(Drop)]
+#[derive(Clone, Copy)]
 pub enum Kind {
     Register,
     Number,
@@ -27,7 +28,7 @@ pub enum Kind {
 }
 
 // The shape of an operand: its field holds the number less `low`.
-#[derive(Drop)]
+#[derive(Clone, Copy)]
 pub struct Shape {
     pub kind: Kind,
     pub place: Place,
@@ -35,7 +36,7 @@ pub struct Shape {
 }
 
 // What is read of operands: not of the right form, outside its field, or a number.
-#[derive(Drop)]
+#[derive(Clone, Copy)]
 pub enum Parsed {
     Malformed,
     Outside,

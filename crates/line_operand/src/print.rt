@@ -8,7 +8,7 @@ use crate::{Kind, Shape};
 use text::{put, put_decimal, put_hex};
 
 // What was printed so far ends before byte `at`; `sep` separates the next operand from it.
-#[derive(Drop)]
+#[derive(Clone, Copy)]
 pub struct Tail {
     pub at: usize,
     pub sep: u8,

@@ -9,7 +9,7 @@ use line_operand::fields::count;
 use line_operand::{Kind, Parsed, Shape};
 
 // What was read so far; the rest of the line starts at byte `at`, with a separator.
-#[derive(Drop)]
+#[derive(Clone, Copy)]
 pub struct Cursor {
     pub sum: Parsed,
     pub at: usize,

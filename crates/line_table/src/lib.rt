@@ -1,4 +1,5 @@
 // The mnemonics of section 5 as one constant table of entries in rows, found by a first word or by a name; and the parts of an entry.
+#![tactic(auto)]
 mod entries;
 pub mod entry;
 pub mod name;
@@ -11,7 +12,7 @@ ghost use Rattle.line_table.specs.Entries.{key_of, entry_in, entry_of, word_at, 
 use line_operand::Shape;
 
 // The shapes of three operands.
-#[derive(Drop)]
+#[derive(Clone, Copy)]
 pub struct Slots {
     pub first: Shape,
     pub second: Shape,

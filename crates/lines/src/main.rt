@@ -1,4 +1,5 @@
 // The program `lines` (docs/USING.md): reads requests on standard input byte by byte, two words to print or a line to read, and writes the answer to each.
+#![tactic(auto)]
 ghost use Rattle.std.specs.Prelude.{◌≤◌, length};
 
 use libc::{STDIN_FILENO, STDOUT_FILENO};
@@ -6,7 +7,7 @@ use line_request::Reading;
 use line_request::input::{finish, take};
 
 // Where the reading stands after a part of the input, and whether the input ends there.
-#[derive(Drop)]
+#[derive(Clone, Copy)]
 struct Part {
     reading: Reading,
     ended: bool,

@@ -1,5 +1,6 @@
 // The words of a user's operation on at most three words: those read, checked and gathered at once, and those stored. Callers have 512 page registers:
 // a run asks for them.
+#![tactic(auto)]
 ghost use Rattle.std.specs.Prelude.{◌≡◌, ◌<◌, ◌≤◌, length};
 ghost use Rattle.page.specs.Spans.{checked, words_of, written};
 ghost use Rattle.machine.specs.State.{key_of, group_of};
@@ -15,7 +16,7 @@ use storage::write::write_word;
 
 // The words read, 0 past their number, where all accesses are open; else the first refusal. The order was chosen by measurement
 // (docs/BENCHMARK.md, "Sizes").
-#[derive(Drop)]
+#[derive(Clone, Copy)]
 pub struct Gathered {
     pub x: u16,
     pub clear: bool,

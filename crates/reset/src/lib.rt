@@ -1,4 +1,5 @@
 // Reset (Scope, "The machine").
+#![tactic(auto)]
 ghost use Rattle.std.specs.Prelude.{◌≡◌, ◌<◌, ◌≤◌, length};
 ghost use Rattle.machine.specs.State.{reset_state};
 ghost use Rattle.machine.specs.Machine.{Became};

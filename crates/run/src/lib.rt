@@ -1,4 +1,5 @@
 // Runs (Scope, "Questions at the door"): the questions, then exactly as many steps as the budget says.
+#![tactic(auto)]
 ghost use Rattle.std.specs.Prelude.{◌≡◌, length};
 ghost use Rattle.machine.specs.declared.State.{State};
 ghost use Rattle.machine.specs.State.{joined, with_processor, with_clock};
@@ -105,7 +106,7 @@ fn assemble(state: State, regs: [u16; 16], core: Core, clock: Clock) -> State
 }
 
 // What a run hands back.
-#[derive(Drop)]
+#[derive(Clone, Copy)]
 pub struct Ran {
     pub answer: Answer,
     pub state: State,

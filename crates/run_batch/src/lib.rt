@@ -1,4 +1,5 @@
 // Batches of steps (Scope, "One step"): entries of interrupts, and instructions between two choices of an interrupt; their ticks are made at once.
+#![tactic(auto)]
 ghost use Rattle.std.specs.Prelude.{◌≡◌, false, cond, List, ◌≢◌, ℕ, ◌+◌, ◌-◌, ◌*◌, ◌/◌, ◌<◌, ◌≤◌, length, get_or};
 ghost use Rattle.machine.specs.declared.State.{State};
 ghost use Rattle.machine.specs.State.{joined, with_processor, with_clock};
@@ -42,7 +43,7 @@ fn interrupted(core: Core, memory: &mut [u16], pages: &[u16], n: u16) -> Core
 
 // A segment of a batch, an entry or instructions in a row, where it ended, before its last tick: the ticks deferred up to there, one for each step of the batch, and
 // their tenths together; a timer command that is still to be done, 0 for none, with the first word of its instruction.
-#[derive(Drop)]
+#[derive(Clone, Copy)]
 pub struct Segment {
     pub core: Core,
     pub deferred: u32,
@@ -155,7 +156,7 @@ fn next_segment(
 }
 
 // What is left of some steps after a batch of them.
-#[derive(Drop)]
+#[derive(Clone, Copy)]
 pub struct Rest {
     pub core: Core,
     pub clock: Clock,

@@ -1,5 +1,6 @@
 // What the program `test_cases` does between its input and its output (docs/TEST-CASES.md): the input is read byte by byte, cases are made and run,
 // and their text is made.
+#![tactic(auto)]
 mod case_run;
 mod enter;
 pub mod input;
@@ -8,7 +9,7 @@ mod output;
 use machine::State;
 
 // How many words of memory, page registers, ports and durations the run of a case is lent.
-#[derive(Drop)]
+#[derive(Clone, Copy)]
 pub struct Lengths {
     pub memory: u16,
     pub pages: u16,
@@ -19,7 +20,7 @@ pub struct Lengths {
 // Where the reading stands: the first twelve bytes of the present line, 0 where there is none yet, and how many there are; the lines and the
 // cases before it; and of the present case whether it has an entry and one that names a duration, its durations, the words that its run is lent, and its state. Its
 // memory, page registers and ports are lent.
-#[derive(Drop)]
+#[derive(Clone, Copy)]
 pub struct Reading {
     pub line: [u8; 12],
     pub at: usize,
@@ -33,7 +34,7 @@ pub struct Reading {
 }
 
 // What comes of a part of the input: where the reading stands after it, and how many bytes of text are written for it.
-#[derive(Drop)]
+#[derive(Clone, Copy)]
 pub struct Turn {
     pub reading: Reading,
     pub end: usize,

@@ -1,4 +1,5 @@
 // The program `test_cases` (docs/TEST-CASES.md): reads the cases on standard input byte by byte, and writes the text that each byte brings.
+#![tactic(auto)]
 ghost use Rattle.std.specs.Prelude.{◌≤◌, length};
 
 use libc::{STDIN_FILENO, STDOUT_FILENO};
@@ -6,7 +7,7 @@ use test_case::Reading;
 use test_case::input::{begin, close, finish, take};
 
 // Where the reading stands after a part of the input, and whether the input ends there.
-#[derive(Drop)]
+#[derive(Clone, Copy)]
 struct Part {
     reading: Reading,
     ended: bool,

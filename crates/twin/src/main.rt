@@ -1,4 +1,5 @@
 // The program (Scope, "The program"): loads the image on standard input, runs 1,000 steps and writes its report, or the number of a refusal.
+#![tactic(auto)]
 use libc::{STDIN_FILENO, STDOUT_FILENO};
 
 fn main() {

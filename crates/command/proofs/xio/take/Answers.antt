@@ -1,0 +1,6 @@
+-- The answers to the goals of `command::xio::take`. Assumes nothing.
+use borrow.Author.Rules.{rules}
+use Rattle.command.proofs.xio.take.Goals as goal
+
+pub returns : goal.returns
+returns c = rw (← c.field_a.ensures.0) c.put.ensures

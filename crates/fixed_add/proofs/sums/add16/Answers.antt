@@ -1,0 +1,14 @@
+-- The answers to the goals of `fixed_add::sums::add16`. Assumes nothing.
+use mathlib.Core.Path.{◌∙◌, ap}
+use borrow.Author.Rules.{rules}
+use lib.Dec.{lit≤}
+use Rattle.fixed_add.specs.Fixed.{single}
+use Rattle.fixed_add.proofs.SumLaws.{excess-is, sum_is}
+use Rattle.fixed_add.proofs.sums.add16.Goals as goal
+
+pub returns : goal.returns
+returns c =
+    let s = c.excess16 in
+    let x = excess-is 16 _ (lit≤ tt) s.ranges.a.fits c.excess16.ensures in
+    let y = excess-is 16 _ (lit≤ tt) s.ranges.b.fits c.excess16-2.ensures in
+    c.narrow16.ensures ∙ ap single (sum_is 16 16 (lit≤ tt) x y)

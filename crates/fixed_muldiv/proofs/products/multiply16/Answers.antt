@@ -1,0 +1,13 @@
+-- The answers to the goals of `fixed_muldiv::products::multiply16`. Assumes nothing.
+use mathlib.Core.Path.{◌∙◌, ap}
+use Prim.Native.Nat.{◌^◌}
+use borrow.Author.Rules.{rules}
+use Rattle.fixed_add.specs.Fixed.{single}
+use Rattle.fixed_muldiv.proofs.ProductLaws.{product_lt, product_is}
+use Rattle.fixed_muldiv.proofs.products.multiply16.Goals as goal
+
+pub overflow_mul-x : goal.overflow_mul-x
+overflow_mul-x c = record { fits = search (product_lt 16 (2 ^ 32) tt) }
+
+pub returns : goal.returns
+returns c = let b = c.struct_known-1 in c.join16.ensures ∙ ap single (product_is b.before.split16.ensures b.split162.ensures)

@@ -1,0 +1,20 @@
+-- The answers to the goals of `fixed_muldiv::quotients::divide32`. Assumes nothing.
+use mathlib.Core.Path.{◌∙◌, ap}
+use Prim.Native.Nat.{◌^◌}
+use borrow.Author.Rules.{rules}
+use Rattle.fixed_add.specs.Fixed.{double}
+use Rattle.fixed_muldiv.proofs.QuotientLaws.{quotient-zero, quotient-lt, quotient_is}
+use Rattle.fixed_muldiv.proofs.quotients.divide32.Goals as goal
+
+pub returns-then-y-eq0 : goal.returns-then-y-eq0
+unfolding double
+returns-then-y-eq0 c = let y = c.struct_known-1 in ap double (quotient-zero y.before.split32.ensures y.split322.ensures c.if-y-eq0.true)
+
+pub join32-requires : goal.join32-requires
+join32-requires c = search (quotient-lt 32 (2 ^ 63) tt)
+
+pub returns : goal.returns
+returns c =
+    let t = c.struct_known-2-1 in
+    let y = t.before.before in
+    c.join32.ensures ∙ ap double (quotient_is y.before.split32.ensures y.split322.ensures t.if1.false)

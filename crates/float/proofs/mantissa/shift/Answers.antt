@@ -1,0 +1,26 @@
+-- The answers to the goals of `float::mantissa::shift`. Assumes nothing.
+use native.Mathlib.Omega.{arith}
+use Prim.Native.Nat.{◌+◌, ◌-◌}
+use mathlib.Core.Path.{refl}
+use lib.Pow.{shr_le}
+use Rattle.float.proofs.MantissaLaws.{shift-low, shift-high, shift-low-out, shift-high-out}
+use borrow.Author.Rules.{rules}
+use Rattle.float.proofs.mantissa.shift.Goals as goal
+
+pub returns-then-m-h : goal.returns-then-m-h
+returns-then-m-h c = shift-low-out c.half-h.ensures _ c.requires.2 _ c.if-w-n.true c.if-m-h.true
+
+pub returns-then-w-n : goal.returns-then-w-n
+returns-then-w-n c = shift-high-out c.half-h.ensures _ c.requires.2 _ c.if-w-n.true c.if-m-h.false
+
+pub overflow_add-result : goal.overflow_add-result
+overflow_add-result c = omega (arith, shr_le c.args.m c.args.n)
+
+pub returns-then-m-h-2 : goal.returns-then-m-h-2
+returns-then-m-h-2 c = shift-low c.half-h.ensures _ c.requires.2 _ _ c.if-m-h-2.true refl
+
+pub overflow_sub-result-5 : goal.overflow_sub-result-5
+overflow_sub-result-5 c = let h = c.half-h.result in omega (arith, shr_le (h + h - 1 - c.args.m) c.args.n)
+
+pub returns : goal.returns
+returns c = shift-high c.half-h.ensures _ c.requires.2 _ _ c.if-m-h-2.false refl

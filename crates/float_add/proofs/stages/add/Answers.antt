@@ -1,0 +1,18 @@
+-- The answers to the goals of `float_add::stages::add`. Assumes nothing.
+use mathlib.Core.Path.{ap, ◌∙◌}
+use Rattle.float.specs.Float.{given}
+use Rattle.float_add.proofs.AddLaws.{sum_fits, added}
+use borrow.Author.Rules.{rules}
+use Rattle.float_add.proofs.stages.add.Goals as goal
+
+pub overflow_add-x : goal.overflow_add-x
+overflow_add-x c = record { fits = sum_fits _ _ _ c.requires.1 c.shift-x.ensures.small c.shift-y.ensures.small }
+
+pub returns : goal.returns
+returns c =
+    let s = c.fit in
+    let start = s.before.before.before.before.before in
+    c.fit.ensures
+    ∙ ap (given _)
+    (added _ _ _ _ _ _ _ _ _ _ start.requires.0 start.requires.2 start.requires.3 s.before.before.before.before.common.ensures.0
+    s.before.before.before.gap.ensures s.before.gap2.ensures s.before.before.shift.ensures s.shift2.ensures)

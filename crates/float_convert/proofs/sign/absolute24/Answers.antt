@@ -1,0 +1,14 @@
+-- The answers to the goals of `float_convert::sign::absolute24`. Assumes nothing.
+use mathlib.Core.Path.{ap, ◌∙◌}
+use lib.Dec.{lit≤}
+use Rattle.float.specs.Float.{given}
+use Rattle.float.proofs.FloatLaws.{whole_float}
+use Rattle.float_convert.proofs.SignLaws.{absolute-low, absolute-high}
+use borrow.Author.Rules.{rules}
+use Rattle.float_convert.proofs.sign.absolute24.Goals as goal
+
+pub returns-then-m-lt8388608 : goal.returns-then-m-lt8388608
+returns-then-m-lt8388608 c = c.plain.ensures ∙ whole_float (absolute-low 24 (lit≤ tt) _ c.requires.0 _ c.if-m-lt8388608.true)
+
+pub returns : goal.returns
+returns c = c.negate24.ensures ∙ ap (given 24) (absolute-high 24 (lit≤ tt) _ c.requires.0 _ c.if-m-lt8388608.false)

@@ -1,0 +1,33 @@
+-- The answers to the goals of `float_exact::finish`. Assumes nothing.
+use borrow.Author.Rules.{rules}
+use mathlib.Core.Path.{ap, ◌∙◌}
+use mathlib.Core.Bool.{true}
+use native.Mathlib.Omega.{arith}
+use lib.Dec.{lit≤}
+use Rattle.float.specs.Float.{given}
+use Rattle.float_exact.specs.Steps.{tail}
+use Rattle.float_exact.proofs.StepLaws.{zero-given, tail-there, tail-high, ranged-under, ranged-over, ranged-neg, ranged-pos}
+use Rattle.float_exact.proofs.finish.Goals as goal
+
+pub overflow_sub-t : goal.overflow_sub-t
+overflow_sub-t c = omega (arith, tail-there 40 c.args.q (lit≤ tt) c.requires.0 (search rules))
+
+pub returns-then-p-t : goal.returns-then-p-t
+unfolding tail
+returns-then-p-t c = c.zero.ensures ∙ zero-given true ∙ ap (given 40) (ranged-under 40 _ _ _ _ c.if-p-t.true)
+
+pub returns-then-e-gt255 : goal.returns-then-e-gt255
+unfolding tail
+returns-then-e-gt255 c = c.largest.ensures ∙ ap (given 40) (ranged-over 40 _ _ _ _ c.if-p-t.false c.if-e-gt255.true)
+
+pub overflow_sub-m : goal.overflow_sub-m
+unfolding tail
+overflow_sub-m c = let s = c.if-p-t in omega (arith, tail-high 40 s.args.q (lit≤ tt) s.requires.0 (search rules))
+
+pub returns-then-neg : goal.returns-then-neg
+unfolding tail
+returns-then-neg c = let i = c.plain in let s = i.before.before.before in c.plain.ensures ∙ ranged-neg 40 _ _ _ _ i.before.before.if1.false i.before.if2.false (lit≤ tt) (tail-high 40 s.args.q (lit≤ tt) s.requires.0 (search rules)) i.if3.true
+
+pub returns : goal.returns
+unfolding tail
+returns c = let i = c.plain-2 in let s = i.before.before.before in c.plain-2.ensures ∙ ranged-pos 40 _ _ _ _ i.before.before.if1.false i.before.if2.false (lit≤ tt) (tail-high 40 s.args.q (lit≤ tt) s.requires.0 (search rules)) i.if3.false

@@ -1,0 +1,16 @@
+-- The answers to the goals of `float_mul::multiply`. Assumes nothing.
+use borrow.Author.Rules.{rules}
+use Prim.Native.Nat.{◌-◌}
+use native.Mathlib.Omega.{arith}
+use Rattle.float_exact.proofs.NarrowLaws.{narrow}
+use Rattle.float_mul.specs.Multiply.{product_of}
+use Rattle.float_mul.proofs.ProductLaws.{product-upper}
+use Rattle.float_mul.proofs.multiply.Goals as goal
+
+pub returns : goal.returns
+returns c =
+    let s = c.wider in
+    let x = s.args in
+    narrow 40 x.w (40 - x.w) x.a x.b (λ k z y. product_of k z x.ea y x.eb) (omega arith) (omega arith) s.requires.2 s.requires.3
+    (λ z y. product-upper x.w (40 - x.w) s.requires.0 z y x.ea x.eb) c.wider.ensures.0 c.wider-2.ensures.0
+    c.multiply40.ensures c.upper.ensures

@@ -1,0 +1,38 @@
+-- The answers to the goals of `float_mul::multiply40`. Assumes nothing.
+use borrow.Author.Rules.{rules}
+use mathlib.Core.Path.{refl, ap, ◌∙◌}
+use mathlib.Core.Bool.{true, false}
+use native.Mathlib.Nat.{zero-mul, mul-zero}
+use lib.Dec.{lit≤}
+use Rattle.float.specs.Float.{given}
+use Rattle.float_exact.specs.Steps.{tail}
+use Rattle.float_exact.proofs.StepLaws.{zero-given, tail-low, tail-high}
+use Rattle.float_exact.proofs.ExactLaws.{magnitude-zero}
+use Rattle.float_mul.proofs.ProductLaws.{product-over, product-under, product-zero, product-done}
+use Rattle.float_mul.proofs.multiply40.Goals as goal
+
+pub returns-then-n-gt383 : goal.returns-then-n-gt383
+returns-then-n-gt383 c = c.largest.ensures ∙ ap (given 40) (product-over 40 _ _ _ _ c.signs_differ-neg.ensures c.if-n-gt383.true)
+
+pub returns-then-n-lt128 : goal.returns-then-n-lt128
+returns-then-n-lt128 c = c.zero.ensures ∙ zero-given true ∙ ap (given 40) (product-under 40 _ _ _ _ c.if-n-gt383.false c.if-n-lt128.true)
+
+pub returns-then-a-eq0 : goal.returns-then-a-eq0
+returns-then-a-eq0 c =
+    let z = c.if-a-eq0 in
+    z.zero2.ensures ∙ zero-given false ∙ ap (given 40) (product-zero 40 _ _ _ _ z.before.before.if1.false z.before.if2.false (rw (magnitude-zero 40 _ c.if-a-eq0.true) (zero-mul _)))
+
+pub returns-then-b-eq0 : goal.returns-then-b-eq0
+returns-then-b-eq0 c =
+    let z = c.if-a-eq0 in
+    z.zero2.ensures ∙ zero-given false ∙ ap (given 40) (product-zero 40 _ _ _ _ z.before.before.if1.false z.before.if2.false (rw (magnitude-zero 40 _ c.if-b-eq0.true) (mul-zero _)))
+
+pub returns : goal.returns
+returns c =
+    let p = c.struct_known-1 in
+    let y = p.before in
+    let i = y.before.before.before.before.before in
+    let q = p.product.result in
+    c.finish.ensures ∙ ap (given 40)
+    (product-done 40 _ _ _ _ i.before.if1.false i.if2.false q 147 20 (tail 40 q) y.before.lead.ensures y.lead2.ensures i.before.before.signs-differ.ensures p.product.ensures.0
+    refl (lit≤ tt) (tail-low 40 q (lit≤ tt) p.product.ensures.1 (search rules)) (tail-high 40 q (lit≤ tt) p.product.ensures.1 (search rules)))

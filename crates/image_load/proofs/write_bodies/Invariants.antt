@@ -1,0 +1,19 @@
+-- What the loops keep, and the measures, of `image_load::write_bodies`. Assumes nothing.
+use Prim.Native.Nat.{ℕ, ◌+◌}
+use Rattle.image.proofs.SoundLaws.{entries-within, entries-rest, table-sound}
+use Rattle.image.specs.Image.{count_of, words_before, table_end, body_at, number_of, entries_answer, with_bodies}
+use Rattle.image_load.proofs.BodyLaws.{bodies-none, bodies-step, body-next, body-inside, table-inside}
+use Rattle.machine.proofs.MachineLaws.{became-machine, machine-became}
+use Rattle.machine.specs.Machine.{machine}
+use borrow.Author.Rules.{rules}
+use lib.ListN.{length}
+use mathlib.Core.List.{List}
+use mathlib.Core.Path.{◌≡◌, refl, sym, ap, ◌∙◌}
+use native.Mathlib.Omega.{arith}
+use Rattle.image_load.proofs.write_bodies.Given as goal
+
+abbrev pub invariant-loop-left : goal.invariant-loop-left
+invariant-loop-left l = (l.k + l.left ≡ count_of l.image) × (l.at ≡ body_at l.image l.k) × (number_of (entries_answer (length l.initial.l.memory) l.image l.left l.k) ≡ 0) × (length l.memory ≡ length l.initial.l.memory) × (length l.pages ≡ length l.initial.l.pages) × ((ports : List ℕ) → with_bodies l.image (count_of l.image) 0 (machine l.initial.l.t l.initial.l.memory l.initial.l.pages ports) ≡ with_bodies l.image l.left l.k (machine l.t l.memory l.pages ports))
+
+abbrev pub decreases-loop-left : goal.decreases-loop-left
+decreases-loop-left l = l.left

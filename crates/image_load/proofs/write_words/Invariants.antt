@@ -1,0 +1,15 @@
+-- What the loops keep, and the measures, of `image_load::write_words`. Assumes nothing.
+use Prim.Native.Nat.{◌+◌, ◌*◌, ◌≤◌}
+use Rattle.image.specs.Image.{words_from}
+use Rattle.image_load.proofs.BodyLaws.{words-none, words_step}
+use lib.ListN.{length, length-set}
+use lib.Seq.{sets}
+use mathlib.Core.Path.{◌≡◌, refl, sym, ◌∙◌}
+use native.Mathlib.Omega.{arith}
+use Rattle.image_load.proofs.write_words.Given as goal
+
+abbrev pub invariant-loop-left : goal.invariant-loop-left
+invariant-loop-left l = (length l.words ≡ length l.initial.l.words) × (l.i + l.left ≤ length l.initial.l.words) × (l.from + 2 * l.left ≤ length l.image) × (sets l.initial.l.words l.start (words_from l.image l.at l.n) ≡ sets l.words l.i (words_from l.image l.from l.left))
+
+abbrev pub decreases-loop-left : goal.decreases-loop-left
+decreases-loop-left l = l.left

@@ -1,0 +1,9 @@
+-- What the loops keep, and the measures, of `lines::read_all`. Assumes nothing.
+use borrow.Author.Rules.{rules}
+use Rattle.lines.proofs.read_all.Given as goal
+
+abbrev pub invariant-loop-left : goal.invariant-loop-left
+invariant-loop-left l = Unit {0}
+
+abbrev pub decreases-loop-left : goal.decreases-loop-left
+decreases-loop-left l = l.left

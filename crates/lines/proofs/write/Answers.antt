@@ -1,0 +1,8 @@
+-- The answers to the goals of `lines::write`. Assumes nothing.
+use borrow.Author.Rules.{rules}
+use lib.ListN.{length-take}
+use native.Mathlib.Omega.{arith}
+use Rattle.lines.proofs.write.Goals as goal
+
+pub slice_bounds-write_all-end : goal.slice_bounds-write_all-end
+slice_bounds-write_all-end c = omega (arith, length-take c.args.end c.args.out.now)

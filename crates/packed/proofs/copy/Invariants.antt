@@ -1,0 +1,12 @@
+-- What the loops keep, and the measures, of `packed::copy`. Assumes nothing.
+use Prim.Native.Nat.{◌-◌}
+use Rattle.packed.proofs.PackLaws.{Copied, copied_none, copied_more, copied_all}
+use lib.ListN.{length}
+use native.Mathlib.Omega.{arith}
+use Rattle.packed.proofs.copy.Given as goal
+
+abbrev pub invariant-loop-i : goal.invariant-loop-i
+invariant-loop-i l = Copied l.initial.l.to l.at l.from l.to l.i
+
+abbrev pub decreases-loop-i : goal.decreases-loop-i
+decreases-loop-i l = length l.from - l.i

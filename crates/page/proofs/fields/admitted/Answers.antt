@@ -1,0 +1,12 @@
+-- The answers to the goals of `page::fields::admitted`. Assumes nothing.
+use Rattle.page.proofs.LookupLaws.{admits-every, admits-zero, admits-own}
+use Rattle.page.proofs.fields.admitted.Goals as goal
+
+pub returns-then-lock-eq15 : goal.returns-then-lock-eq15
+returns-then-lock-eq15 c = admits-every _ _ c.if-lock-eq15.true
+
+pub returns-then-key-eq0 : goal.returns-then-key-eq0
+returns-then-key-eq0 c = admits-zero _ _ c.if-lock-eq15.false c.if-key-eq0.true
+
+pub returns : goal.returns
+returns c = admits-own _ _ c.if-lock-eq15.false c.if-key-eq0.false

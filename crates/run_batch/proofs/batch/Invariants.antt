@@ -1,0 +1,21 @@
+-- What the loops keep, and the measures, of `run_batch::batch`. Assumes nothing.
+use Prim.Native.Nat.{◌+◌, ◌*◌, ◌≤◌, ◌<◌, ◌-◌}
+use Rattle.clock.specs.Deferred.{longest_of}
+use Rattle.isa.specs.Mil1750.{mil1750}
+use Rattle.machine.specs.Machine.{machine}
+use Rattle.machine.specs.Runs.{steps}
+use Rattle.machine.specs.State.{joined, with_processor, with_clock}
+use Rattle.machine.specs.declared.State.{State}
+use Rattle.run_batch.proofs.StepLaws.{batch-start, batch-end, batch-on, bounded-small, closed-finished, closed-commanded}
+use Rattle.run_batch.specs.Batch.{deferred_at, AllButLast}
+use borrow.Author.Rules.{rules}
+use lib.ListN.{length}
+use mathlib.Core.Path.{◌≡◌, refl, sym, ◌∙◌}
+use native.Mathlib.Omega.{arith}
+use Rattle.run_batch.proofs.batch.Given as goal
+
+abbrev pub invariant-loop-t : goal.invariant-loop-t
+invariant-loop-t l = (length l.memory ≡ length l.initial.l.memory) × (length l.pages ≡ length l.initial.l.pages) × (length l.ports ≡ length l.initial.l.ports) × (l.deferred < l.most) × (l.most ≤ l.n) × AllButLast l.durations l.most l.clock × (l.tenths ≤ longest_of l.durations * l.deferred) × ((s : State) → steps mil1750 l.durations l.n (machine (with_clock (with_processor s (joined l.initial.l.t l.initial.l.regs)) l.clock) l.initial.l.memory l.initial.l.pages l.initial.l.ports) ≡ steps mil1750 l.durations (l.n - l.deferred) (machine (deferred_at (with_clock s l.clock) l.deferred l.tenths l.t l.regs) l.memory l.pages l.ports))
+
+abbrev pub decreases-loop-t : goal.decreases-loop-t
+decreases-loop-t l = l.most - l.deferred

@@ -1,0 +1,23 @@
+-- What the loops keep, and the measures, of `run_batch::obey`. Assumes nothing.
+use Prim.Native.Nat.{ℕ, ◌+◌, ◌*◌, ◌≤◌, ◌<◌, ◌-◌}
+use Rattle.clock.specs.Deferred.{after_ticks, longest_of}
+use Rattle.isa.specs.Mil1750.{mil1750}
+use Rattle.machine.specs.Entries.{chosen}
+use Rattle.machine.specs.Instructions.{view}
+use Rattle.machine.specs.State.{key_of, group_of, Keyed, with_clock}
+use Rattle.machine.specs.declared.State.{State}
+use Rattle.run_batch.proofs.StepLaws.{going, segment-made, segment-on, sw-released, hold-released, chosen-released, chosen-settled, bounded-step, bounded-small}
+use Rattle.run_batch.specs.Batch.{deferred_at, AllButLast}
+use borrow.Author.Rules.{rules}
+use borrow.Author.Tests.{not-false}
+use lib.ListN.{length}
+use mathlib.Core.Bool.{false}
+use mathlib.Core.Path.{◌≡◌, refl, sym, ap, ◌∙◌}
+use native.Mathlib.Omega.{arith}
+use Rattle.run_batch.proofs.obey.Given as goal
+
+abbrev pub invariant-loop-t : goal.invariant-loop-t
+invariant-loop-t l = (length l.memory ≡ length l.initial.l.memory) × (length l.pages ≡ length l.initial.l.pages) × (length l.ports ≡ length l.initial.l.ports) × (l.initial.l.deferred ≤ l.deferred) × (l.deferred < l.end) × (l.end ≤ l.most) × Keyed l.t.sw l.key l.group × (l.t.hold ≡ false) × (l.deferred + 1 < l.end → 16 ≤ chosen l.t) × (l.tenths ≤ longest_of l.durations * l.deferred) × ((s : State) → AllButLast l.durations l.most s.clock → (k : ℕ) → going mil1750 l.durations (k + (l.deferred - l.initial.l.deferred)) (deferred_at s l.initial.l.deferred l.initial.l.tenths l.initial.l.t l.initial.l.regs) l.initial.l.memory l.initial.l.pages l.initial.l.ports ≡ going mil1750 l.durations k (deferred_at s l.deferred l.tenths l.t l.regs) l.memory l.pages l.ports)
+
+abbrev pub decreases-loop-t : goal.decreases-loop-t
+decreases-loop-t l = l.end - l.deferred

@@ -1,0 +1,16 @@
+-- The answers to the goals of `shift::counted::count_of`. Assumes nothing.
+use borrow.Author.Rules.{rules}
+use Rattle.shift.proofs.CountLaws.{left-count, left-beyond, right-count, right-beyond}
+use Rattle.shift.proofs.counted.count_of.Goals as goal
+
+pub returns-then-count-width : goal.returns-then-count-width
+returns-then-count-width c = left-count _ _ c.if-count-lt32768.true c.if-count-width.true
+
+pub returns-then-count-lt32768 : goal.returns-then-count-lt32768
+returns-then-count-lt32768 c = left-beyond _ _ c.if-count-lt32768.true c.if-count-width.false
+
+pub returns-then-back-width : goal.returns-then-back-width
+returns-then-back-width c = right-count _ _ c.if-count-lt32768.false c.ranges.count.fits c.if-back-width.true
+
+pub returns : goal.returns
+returns c = right-beyond _ _ c.if-count-lt32768.false c.ranges.count.fits c.if-back-width.false

@@ -1,0 +1,21 @@
+-- The answers to the goals of `shift::counted::logical32`. Assumes nothing.
+use borrow.Author.Rules.{rules}
+use mathlib.Core.Path.{ap}
+use Rattle.shift.specs.Shift.{plain, shifted32}
+use Rattle.shift.proofs.CountLaws.{left-within, right-within, left-shifted, right-shifted, not-shifted}
+use Rattle.shift.proofs.counted.logical32.Goals as goal
+
+pub left32-requires : goal.left32-requires
+left32-requires c = left-within 32 _ c.count_of.ensures c.in-Left.is
+
+pub right32-requires : goal.right32-requires
+right32-requires c = right-within 32 _ c.count_of.ensures c.in-Right.is
+
+pub returns-in-Left : goal.returns-in-Left
+returns-in-Left c = ap shifted32 (left-shifted 32 _ _ _ _ c.count_of.ensures c.in-Left.is (ap plain c.left32.ensures))
+
+pub returns-in-Right : goal.returns-in-Right
+returns-in-Right c = ap shifted32 (right-shifted 32 _ _ _ _ c.count_of.ensures c.in-Right.is (ap plain c.right32.ensures))
+
+pub returns-in-Beyond : goal.returns-in-Beyond
+returns-in-Beyond c = ap shifted32 (not-shifted 32 _ _ _ _ c.count_of.ensures c.in-Beyond.is)

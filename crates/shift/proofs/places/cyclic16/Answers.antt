@@ -1,0 +1,7 @@
+-- The answers to the goals of `shift::places::cyclic16`. Assumes nothing.
+use borrow.Author.Rules.{rules}
+use Rattle.shift.proofs.ShiftLaws.{around}
+use Rattle.shift.proofs.places.cyclic16.Goals as goal
+
+pub returns : goal.returns
+returns c = around 16 _ _ c.requires c.ranges.a.fits

@@ -1,0 +1,20 @@
+-- The answers to the goals of `storage::write::write_word`. Assumes nothing.
+use Rattle.page.proofs.ReachLaws.{located-inside}
+use Rattle.page.proofs.SpanLaws.{put_as}
+use Rattle.page.specs.Spans.{put_at}
+use Rattle.std.proofs.Common.{arith, rules}
+use Rattle.storage.proofs.write.write_word.Goals as goal
+
+pub offset_bounds-memory-p : goal.offset_bounds-memory-p
+offset_bounds-memory-p c = omega (arith, located-inside _ _ _ _ _ _ _ _ c.look_up-place.ensures c.in-At.is)
+
+pub bounds-memory-p : goal.bounds-memory-p
+bounds-memory-p c = located-inside _ _ _ _ _ _ _ _ c.look_up-place.ensures c.in-At.is
+
+pub returns-in-At : goal.returns-in-At
+unfolding put_at
+returns-in-At c = put_as _ _ _ c.look_up-place.ensures c.in-At.is _ _
+
+pub returns-in-Refused : goal.returns-in-Refused
+unfolding put_at
+returns-in-Refused c = put_as _ _ _ c.look_up-place.ensures c.in-Refused.is _ _
