@@ -20,12 +20,12 @@ use Rattle.decode.specs.Pages.{Field, free, fixed, Line, pages}
 use Rattle.decode.specs.Decode.{within, fits, claims, line_form}
 use Rattle.decode.proofs.PageLaws.{disjoint, disjoint-claims, pages-disjoint}
 use Rattle.line_operand.specs.declared.Place.{Place}
-use Rattle.line_operand.specs.declared.Place.TheVariants.{Lower, Upper, Base, Top, Second}
+use Rattle.line_operand.specs.declared.Place.TheVariants.{Lower, Upper, Base, Top, Second, Nowhere, Byte}
 use Rattle.line_operand.specs.Numerals.{lacks}
 use Rattle.line_operand.specs.Shapes.{field_of, meets, covers, shapes, shape_of}
 use Rattle.line_operand.specs.Operands.{hidden, optional}
 use Rattle.line_operand.proofs.PlaceLaws.{Digit, lower, upper, base, top, second}
-use Rattle.line_operand.proofs.OperandLaws.{fits as kindFits}
+use Rattle.line_operand.proofs.OperandLaws.{fits as kind_fits}
 use Rattle.line_operand.proofs.RowLaws.{fitting, silent, ordered, scattered, clear, hides, slim, widths}
 use Rattle.line_table.specs.Boxes.{same_text, named, claims_word, box_of, box_named, extension, base_of, shapes_of}
 use Rattle.line_table.proofs.NameLaws.{same_true, same_refl}
@@ -65,7 +65,7 @@ sound l =
     && (tied l && (veiled l && (short l && eqb (length_of (line_form l)) (cond (covers (shapes_of l) Second) 2 1))))))
 
 pub all_sound : all_of sound pages ≡ true
-unfolding sound tied pages shapes shape_of fitting kindFits silent ordered hidden optional scattered covers meets clear hides slim widths field_of lacks bytes_of same_text
+unfolding sound tied pages shapes shape_of fitting kind_fits silent ordered hidden optional scattered covers meets clear hides slim widths field_of lacks bytes_of same_text
 all_sound = refl
 
 pub record Sound (l : Line) : Type 0 where
@@ -311,3 +311,5 @@ module _ (l : Line) (t : tied l ≡ true) where
         let z : base_of l % 16 ≡ base_of l / 1 % 16 = omega arith in
         a ∙ kept-fits l.lower _ (w % 16) s.low claimed.3 f ∙ sym (lower-made l.first _ _ s.small x-small y-small) ∙ z
     claims-kept Second second x f = absurd (false≢true (sym x))
+    claims-kept Nowhere d x f = elim d [ ]
+    claims-kept Byte d x f = elim d [ ]

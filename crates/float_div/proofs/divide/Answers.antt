@@ -10,16 +10,14 @@ use Rattle.float_div.proofs.divide.Goals as goal
 
 pub divide40-requires : goal.divide40-requires
 divide40-requires c =
-    let s = c.if-w-eq40 in
-    (subst (λ (k : ℕ). s.args.a < 2 ^ k) c.if-w-eq40.true s.requires.2, s.requires.4, subst (λ (k : ℕ). s.args.b < 2 ^ k) c.if-w-eq40.true s.requires.3, s.requires.5)
+    (subst (λ (k : ℕ). c.args.a < 2 ^ k) c.if-w-eq40.true c.requires.2, c.requires.4, subst (λ (k : ℕ). c.args.b < 2 ^ k) c.if-w-eq40.true c.requires.3, c.requires.5)
 
 pub returns-then-w-eq40 : goal.returns-then-w-eq40
 returns-then-w-eq40 c = rw c.if-w-eq40.true c.divide40.ensures
 
 pub returns : goal.returns
 returns c =
-    let s = c.if-w-eq40 in
-    let x = s.args in
-    narrow 40 x.w (40 - x.w) x.a x.b (λ k z y. quotient_of k z x.ea y x.eb) (omega arith) (omega arith) s.requires.2 s.requires.3
-    (λ z y. quotient-upper x.w (40 - x.w) s.requires.0 z y x.ea x.eb) c.wider.ensures.0 c.wider-2.ensures.0
+    let x = c.args in
+    narrow 40 x.w (40 - x.w) x.a x.b (λ k z y. quotient_of k z x.ea y x.eb) (omega arith) (omega arith) c.requires.2 c.requires.3
+    (λ z y. quotient-upper x.w (40 - x.w) c.requires.0 z y x.ea x.eb) c.wider.ensures.0 c.wider-2.ensures.0
     c.divide40-2.ensures c.upper.ensures

@@ -13,32 +13,30 @@ digit : (n b : ℕ) → n < 2 ^ 61 → 2 ^ 39 ≤ b → n / b < 2 ^ 22
 digit n b h l = (div-lt_iff_lt-mul {k = b} {x = n} {y = 2 ^ 22} (omega arith)).1 (omega arith)
 
 -- the first step: its remainder and its digit
-step : (c : tie.Start) → let n = c.args.a * 2 ^ 20 in let b = c.args.b in (n % b < 2 ^ 40) × (n / b < 2 ^ 22) × (1 ≤ n / b)
-step c =
-    let b : 0 < c.args.b = omega arith in
-    (omega (arith, mod-lt (c.args.a * 2 ^ 20) b), digit (c.args.a * 2 ^ 20) c.args.b (omega arith) (omega arith), (le-div_iff_mul-le {k = c.args.b} {x = 1} {y = c.args.a * 2 ^ 20} b).1 (omega arith))
+step : (a b : ℕ) → 2 ^ 39 ≤ a → a < 2 ^ 40 → 2 ^ 39 ≤ b → b < 2 ^ 40 → let n = a * 2 ^ 20 in (n % b < 2 ^ 40) × (n / b < 2 ^ 22) × (1 ≤ n / b)
+step a b la ha lb hb =
+    let p : 0 < b = omega arith in
+    (omega (arith, mod-lt (a * 2 ^ 20) p), digit (a * 2 ^ 20) b (omega arith) (omega arith), (le-div_iff_mul-le {k = b} {x = 1} {y = a * 2 ^ 20} p).1 (omega arith))
 
 pub overflow_mul-low : goal.overflow_mul-low
-overflow_mul-low c = omega (arith, step c)
+overflow_mul-low c = omega (arith, step c.args.a c.args.b c.requires.0 c.requires.1 c.requires.2 c.requires.3)
 
 pub overflow_add-low : goal.overflow_add-low
-overflow_add-low c = omega (arith, step c)
+overflow_add-low c = omega (arith, step c.args.a c.args.b c.requires.0 c.requires.1 c.requires.2 c.requires.3)
 
 pub overflow_mul-result : goal.overflow_mul-result
-overflow_mul-result c = omega (arith, step c.one_if)
+overflow_mul-result c = omega (arith, step c.args.a c.args.b c.requires.0 c.requires.1 c.requires.2 c.requires.3)
 
 pub overflow_add-result : goal.overflow_add-result
 overflow_add-result c =
-    let s = c.one_if in
-    let r = step s in
-    omega (arith, digit (s.args.a * 2 ^ 20 % s.args.b * 2 ^ 20 + s.args.b - c.one_if.result) s.args.b (omega arith) (omega arith))
+    let r = step c.args.a c.args.b c.requires.0 c.requires.1 c.requires.2 c.requires.3 in
+    omega (arith, digit (c.args.a * 2 ^ 20 % c.args.b * 2 ^ 20 + c.args.b - c.one_if.result) c.args.b (omega arith) (omega arith))
 
 pub overflow_sub-result : goal.overflow_sub-result
-overflow_sub-result c = omega (arith, step c.one_if)
+overflow_sub-result c = omega (arith, step c.args.a c.args.b c.requires.0 c.requires.1 c.requires.2 c.requires.3)
 
 pub returns : goal.returns
 returns c =
-    let s = c.one_if in
-    let v = one_if-le s.args.neg in
-    let e = long-quotient (2 ^ 20) s.args.a s.args.b (one_if s.args.neg) v (omega arith) (omega arith) in
-    rw c.one_if.ensures (e, rw e (quotient-long s.args.a s.args.b (one_if s.args.neg) v s.requires.0 s.requires.2 s.requires.3))
+    let v = one_if-le c.args.neg in
+    let e = long-quotient (2 ^ 20) c.args.a c.args.b (one_if c.args.neg) v (omega arith) (omega arith) in
+    rw c.one_if.ensures (e, rw e (quotient-long c.args.a c.args.b (one_if c.args.neg) v c.requires.0 c.requires.2 c.requires.3))

@@ -22,12 +22,12 @@ returns-then-e-gt255 c = c.largest.ensures ∙ ap (given 40) (ranged-over 40 _ _
 
 pub overflow_sub-m : goal.overflow_sub-m
 unfolding tail
-overflow_sub-m c = let s = c.if-p-t in omega (arith, tail-high 40 s.args.q (lit≤ tt) s.requires.0 (search rules))
+overflow_sub-m c = omega (arith, tail-high 40 c.args.q (lit≤ tt) c.requires.0 (search rules))
 
 pub returns-then-neg : goal.returns-then-neg
 unfolding tail
-returns-then-neg c = let i = c.plain in let s = i.before.before.before in c.plain.ensures ∙ ranged-neg 40 _ _ _ _ i.before.before.if1.false i.before.if2.false (lit≤ tt) (tail-high 40 s.args.q (lit≤ tt) s.requires.0 (search rules)) i.if3.true
+returns-then-neg c = let s = c in c.plain.ensures ∙ ranged-neg 40 _ _ _ _ c.if-p-t.false c.if-e-gt255.false (lit≤ tt) (tail-high 40 s.args.q (lit≤ tt) s.requires.0 (search rules)) c.if-neg.true
 
 pub returns : goal.returns
 unfolding tail
-returns c = let i = c.plain-2 in let s = i.before.before.before in c.plain-2.ensures ∙ ranged-pos 40 _ _ _ _ i.before.before.if1.false i.before.if2.false (lit≤ tt) (tail-high 40 s.args.q (lit≤ tt) s.requires.0 (search rules)) i.if3.false
+returns c = let s = c in c.plain-2.ensures ∙ ranged-pos 40 _ _ _ _ c.if-p-t.false c.if-e-gt255.false (lit≤ tt) (tail-high 40 s.args.q (lit≤ tt) s.requires.0 (search rules)) c.if-neg.false

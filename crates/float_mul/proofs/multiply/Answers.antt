@@ -9,8 +9,7 @@ use Rattle.float_mul.proofs.multiply.Goals as goal
 
 pub returns : goal.returns
 returns c =
-    let s = c.wider in
-    let x = s.args in
-    narrow 40 x.w (40 - x.w) x.a x.b (λ k z y. product_of k z x.ea y x.eb) (omega arith) (omega arith) s.requires.2 s.requires.3
-    (λ z y. product-upper x.w (40 - x.w) s.requires.0 z y x.ea x.eb) c.wider.ensures.0 c.wider-2.ensures.0
+    let x = c.args in
+    narrow 40 x.w (40 - x.w) x.a x.b (λ k z y. product_of k z x.ea y x.eb) (omega arith) (omega arith) c.requires.2 c.requires.3
+    (λ z y. product-upper x.w (40 - x.w) c.requires.0 z y x.ea x.eb) c.wider.ensures.0 c.wider-2.ensures.0
     c.multiply40.ensures c.upper.ensures

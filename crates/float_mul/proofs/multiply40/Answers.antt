@@ -19,20 +19,17 @@ returns-then-n-lt128 c = c.zero.ensures ∙ zero-given true ∙ ap (given 40) (p
 
 pub returns-then-a-eq0 : goal.returns-then-a-eq0
 returns-then-a-eq0 c =
-    let z = c.if-a-eq0 in
-    z.zero2.ensures ∙ zero-given false ∙ ap (given 40) (product-zero 40 _ _ _ _ z.before.before.if1.false z.before.if2.false (rw (magnitude-zero 40 _ c.if-a-eq0.true) (zero-mul _)))
+    c.zero-nothing.ensures ∙ zero-given false ∙ ap (given 40) (product-zero 40 _ _ _ _ c.if-n-gt383.false c.if-n-lt128.false (rw (magnitude-zero 40 _ c.if-a-eq0.true) (zero-mul _)))
 
 pub returns-then-b-eq0 : goal.returns-then-b-eq0
 returns-then-b-eq0 c =
-    let z = c.if-a-eq0 in
-    z.zero2.ensures ∙ zero-given false ∙ ap (given 40) (product-zero 40 _ _ _ _ z.before.before.if1.false z.before.if2.false (rw (magnitude-zero 40 _ c.if-b-eq0.true) (mul-zero _)))
+    c.zero-nothing.ensures ∙ zero-given false ∙ ap (given 40) (product-zero 40 _ _ _ _ c.if-n-gt383.false c.if-n-lt128.false (rw (magnitude-zero 40 _ c.if-b-eq0.true) (mul-zero _)))
 
 pub returns : goal.returns
 returns c =
-    let p = c.struct_known-1 in
-    let y = p.before in
+    let y = c in
     let i = y.before.before.before.before.before in
-    let q = p.product.result in
+    let q = c.product-q.result in
     c.finish.ensures ∙ ap (given 40)
-    (product-done 40 _ _ _ _ i.before.if1.false i.if2.false q 147 20 (tail 40 q) y.before.lead.ensures y.lead2.ensures i.before.before.signs-differ.ensures p.product.ensures.0
-    refl (lit≤ tt) (tail-low 40 q (lit≤ tt) p.product.ensures.1 (search rules)) (tail-high 40 q (lit≤ tt) p.product.ensures.1 (search rules)))
+    (product-done 40 _ _ _ _ i.before.if1.false i.if2.false q 147 20 (tail 40 q) y.before.lead.ensures y.lead2.ensures i.before.before.signs-differ.ensures c.product-q.ensures.0
+    refl (lit≤ tt) (tail-low 40 q (lit≤ tt) c.product-q.ensures.1 (search rules)) (tail-high 40 q (lit≤ tt) c.product-q.ensures.1 (search rules)))

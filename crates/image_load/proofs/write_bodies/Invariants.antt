@@ -13,7 +13,7 @@ use native.Mathlib.Omega.{arith}
 use Rattle.image_load.proofs.write_bodies.Given as goal
 
 abbrev pub invariant-loop-left : goal.invariant-loop-left
-invariant-loop-left l = (l.k + l.left ≡ count_of l.image) × (l.at ≡ body_at l.image l.k) × (number_of (entries_answer (length l.initial.l.memory) l.image l.left l.k) ≡ 0) × (length l.memory ≡ length l.initial.l.memory) × (length l.pages ≡ length l.initial.l.pages) × ((ports : List ℕ) → with_bodies l.image (count_of l.image) 0 (machine l.initial.l.t l.initial.l.memory l.initial.l.pages ports) ≡ with_bodies l.image l.left l.k (machine l.t l.memory l.pages ports))
+invariant-loop-left l = (l.k + l.left ≡ count_of l.image) × (l.at ≡ body_at l.image l.k) × (number_of (entries_answer (length l.initial.memory) l.image l.left l.k) ≡ 0) × (length l.memory ≡ length l.initial.memory) × (length l.pages ≡ length l.initial.pages) × ((ports : List ℕ) → with_bodies l.image (count_of l.image) 0 (machine l.initial.t l.initial.memory l.initial.pages ports) ≡ with_bodies l.image l.left l.k (machine l.t l.memory l.pages ports))
 
 abbrev pub decreases-loop-left : goal.decreases-loop-left
 decreases-loop-left l = l.left

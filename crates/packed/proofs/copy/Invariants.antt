@@ -6,7 +6,7 @@ use native.Mathlib.Omega.{arith}
 use Rattle.packed.proofs.copy.Given as goal
 
 abbrev pub invariant-loop-i : goal.invariant-loop-i
-invariant-loop-i l = Copied l.initial.l.to l.at l.from l.to l.i
+invariant-loop-i l = Copied l.initial.to l.at l.from l.to l.i
 
 abbrev pub decreases-loop-i : goal.decreases-loop-i
 decreases-loop-i l = length l.from - l.i

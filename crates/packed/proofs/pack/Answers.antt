@@ -8,7 +8,7 @@ use native.Mathlib.Omega.{arith}
 use Rattle.packed.proofs.pack.Goals as goal
 
 pub copy-requires : goal.copy-requires
-copy-requires c = let l : 16 ≡ length c.args.s.regs = slice-aggregate-copy-2 c in omega arith
+copy-requires c = let l : 16 ≡ length c.args.s.regs = search rules in omega arith
 
 pub copy-requires-2 : goal.copy-requires-2
 copy-requires-2 c = omega (arith, c.requires, c.copy.auto.to)

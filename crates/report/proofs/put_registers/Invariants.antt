@@ -9,7 +9,7 @@ use native.Mathlib.Omega.{arith}
 use Rattle.report.proofs.put_registers.Given as goal
 
 abbrev pub invariant-loop-n : goal.invariant-loop-n
-invariant-loop-n l = (l.n ≤ 8) × (Wrote l.initial.l.out l.at (registers l.regs l.first l.n) l.out l.to) × (l.to ≡ l.at + 5 * l.n)
+invariant-loop-n l = (l.n ≤ 8) × (Wrote l.initial.out l.at (registers l.regs l.first l.n) l.out l.to) × (l.to ≡ l.at + 5 * l.n)
 
 abbrev pub decreases-loop-n : goal.decreases-loop-n
 decreases-loop-n l = 8 - l.n

@@ -9,7 +9,7 @@ use native.Mathlib.Omega.{arith}
 use Rattle.reset.proofs.fill.Given as goal
 
 abbrev pub invariant-loop-i : goal.invariant-loop-i
-invariant-loop-i l = Filled (λ k. k % l.period) l.initial.l.words l.i l.words
+invariant-loop-i l = Filled (λ k. k % l.period) l.initial.words l.i l.words
 
 abbrev pub decreases-loop-i : goal.decreases-loop-i
-decreases-loop-i l = length l.initial.l.words - l.i
+decreases-loop-i l = length l.initial.words - l.i

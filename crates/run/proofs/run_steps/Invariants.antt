@@ -12,7 +12,7 @@ use native.Mathlib.Omega.{arith}
 use Rattle.run.proofs.run_steps.Given as goal
 
 abbrev pub invariant-loop-due : goal.invariant-loop-due
-invariant-loop-due l = (length l.memory ≡ length l.initial.l.memory) × (length l.pages ≡ length l.initial.l.pages) × (length l.ports ≡ length l.initial.l.ports) × ((s : State) → steps mil1750 l.durations l.initial.l.due (machine (with_clock (with_processor s (joined l.initial.l.t l.initial.l.regs)) l.initial.l.u) l.initial.l.memory l.initial.l.pages l.initial.l.ports) ≡ steps mil1750 l.durations l.due (machine (with_clock (with_processor s (joined l.t l.regs)) l.u) l.memory l.pages l.ports))
+invariant-loop-due l = (length l.memory ≡ length l.initial.memory) × (length l.pages ≡ length l.initial.pages) × (length l.ports ≡ length l.initial.ports) × ((s : State) → steps mil1750 l.durations l.initial.due (machine (with_clock (with_processor s (joined l.initial.t l.initial.regs)) l.initial.u) l.initial.memory l.initial.pages l.initial.ports) ≡ steps mil1750 l.durations l.due (machine (with_clock (with_processor s (joined l.t l.regs)) l.u) l.memory l.pages l.ports))
 
 abbrev pub decreases-loop-due : goal.decreases-loop-due
 decreases-loop-due l = l.due

@@ -15,7 +15,7 @@ use native.Mathlib.Omega.{arith}
 use Rattle.run_batch.proofs.batch.Given as goal
 
 abbrev pub invariant-loop-t : goal.invariant-loop-t
-invariant-loop-t l = (length l.memory ≡ length l.initial.l.memory) × (length l.pages ≡ length l.initial.l.pages) × (length l.ports ≡ length l.initial.l.ports) × (l.deferred < l.most) × (l.most ≤ l.n) × AllButLast l.durations l.most l.clock × (l.tenths ≤ longest_of l.durations * l.deferred) × ((s : State) → steps mil1750 l.durations l.n (machine (with_clock (with_processor s (joined l.initial.l.t l.initial.l.regs)) l.clock) l.initial.l.memory l.initial.l.pages l.initial.l.ports) ≡ steps mil1750 l.durations (l.n - l.deferred) (machine (deferred_at (with_clock s l.clock) l.deferred l.tenths l.t l.regs) l.memory l.pages l.ports))
+invariant-loop-t l = (length l.memory ≡ length l.initial.memory) × (length l.pages ≡ length l.initial.pages) × (length l.ports ≡ length l.initial.ports) × (l.deferred < l.most) × (l.most ≤ l.n) × AllButLast l.durations l.most l.clock × (l.tenths ≤ longest_of l.durations * l.deferred) × ((s : State) → steps mil1750 l.durations l.n (machine (with_clock (with_processor s (joined l.initial.t l.initial.regs)) l.clock) l.initial.memory l.initial.pages l.initial.ports) ≡ steps mil1750 l.durations (l.n - l.deferred) (machine (deferred_at (with_clock s l.clock) l.deferred l.tenths l.t l.regs) l.memory l.pages l.ports))
 
 abbrev pub decreases-loop-t : goal.decreases-loop-t
 decreases-loop-t l = l.most - l.deferred

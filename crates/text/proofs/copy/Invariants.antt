@@ -8,7 +8,7 @@ use native.Mathlib.Omega.{arith}
 use Rattle.text.proofs.copy.Given as goal
 
 abbrev pub invariant-loop-n : goal.invariant-loop-n
-invariant-loop-n l = (l.n ≤ length l.bytes) × (length l.out ≡ length l.initial.l.out) × (Wrote l.initial.l.out l.at (take l.n l.bytes) l.out l.to) × (l.to ≡ l.at + l.n)
+invariant-loop-n l = (l.n ≤ length l.bytes) × (length l.out ≡ length l.initial.out) × (Wrote l.initial.out l.at (take l.n l.bytes) l.out l.to) × (l.to ≡ l.at + l.n)
 
 abbrev pub decreases-loop-n : goal.decreases-loop-n
 decreases-loop-n l = length l.bytes - l.n

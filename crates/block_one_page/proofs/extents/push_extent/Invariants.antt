@@ -11,7 +11,7 @@ use native.Mathlib.Omega.{arith}
 use Rattle.block_one_page.proofs.extents.push_extent.Given as goal
 
 abbrev pub invariant-loop-left : goal.invariant-loop-left
-invariant-loop-left l = (l.i + l.left ≡ l.count) × (length l.memory ≡ length l.initial.l.memory) × (stored_at (downwards l.p) (pushed_from l.regs l.b l.count 0) l.count 0 l.initial.l.memory ≡ stored_at (downwards l.p) (pushed_from l.regs l.b l.count 0) l.left l.i l.memory)
+invariant-loop-left l = (l.i + l.left ≡ l.count) × (length l.memory ≡ length l.initial.memory) × (stored_at (downwards l.p) (pushed_from l.regs l.b l.count 0) l.count 0 l.initial.memory ≡ stored_at (downwards l.p) (pushed_from l.regs l.b l.count 0) l.left l.i l.memory)
 
 abbrev pub decreases-loop-left : goal.decreases-loop-left
 decreases-loop-left l = l.left

@@ -9,7 +9,7 @@ use native.Mathlib.Omega.{arith}
 use Rattle.block_one_page.proofs.extents.store_extent.Given as goal
 
 abbrev pub invariant-loop-left : goal.invariant-loop-left
-invariant-loop-left l = (l.i + l.left ≤ 16) × (l.p + l.i + l.left ≤ length l.initial.l.memory) × (length l.memory ≡ length l.initial.l.memory) × (stored_at (upwards l.p) l.regs l.count 0 l.initial.l.memory ≡ stored_at (upwards l.p) l.regs l.left l.i l.memory)
+invariant-loop-left l = (l.i + l.left ≤ 16) × (l.p + l.i + l.left ≤ length l.initial.memory) × (length l.memory ≡ length l.initial.memory) × (stored_at (upwards l.p) l.regs l.count 0 l.initial.memory ≡ stored_at (upwards l.p) l.regs l.left l.i l.memory)
 
 abbrev pub decreases-loop-left : goal.decreases-loop-left
 decreases-loop-left l = l.left

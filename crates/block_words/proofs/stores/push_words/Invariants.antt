@@ -11,7 +11,7 @@ use native.Mathlib.Omega.{arith}
 use Rattle.block_words.proofs.stores.push_words.Given as goal
 
 abbrev pub invariant-loop-i : goal.invariant-loop-i
-invariant-loop-i l = (l.b < 16) × (l.k ≤ 16) × (length l.buf ≡ 16) × (sets l.initial.l.buf 0 (pushed_from l.regs l.b l.k 0) ≡ sets l.buf l.i (pushed_from l.regs l.b (l.k - l.i) l.i))
+invariant-loop-i l = (l.b < 16) × (l.k ≤ 16) × (length l.buf ≡ 16) × (sets l.initial.buf 0 (pushed_from l.regs l.b l.k 0) ≡ sets l.buf l.i (pushed_from l.regs l.b (l.k - l.i) l.i))
 
 abbrev pub decreases-loop-i : goal.decreases-loop-i
 decreases-loop-i l = l.k - l.i

@@ -8,7 +8,6 @@ use Rattle.fixed_add.proofs.sums.sub16.Goals as goal
 
 pub returns : goal.returns
 returns c =
-    let s = c.excess16 in
-    let x = excess-is 16 _ (lit≤ tt) s.ranges.a.fits c.excess16.ensures in
-    let y = excess-is 16 _ (lit≤ tt) s.ranges.b.fits c.excess16-2.ensures in
-    c.narrow16.ensures ∙ ap single (difference-is 16 16 (lit≤ tt) x y s.ranges.b.fits)
+    let x = excess-is 16 _ (lit≤ tt) c.ranges.a.fits c.excess16.ensures in
+    let y = excess-is 16 _ (lit≤ tt) c.ranges.b.fits c.excess16-2.ensures in
+    c.narrow16.ensures ∙ ap single (difference-is 16 16 (lit≤ tt) x y c.ranges.b.fits)

@@ -8,7 +8,6 @@ use Rattle.fixed_add.proofs.sums.sub32.Goals as goal
 
 pub returns : goal.returns
 returns c =
-    let s = c.excess32 in
-    let x = excess-is 32 _ (lit≤ tt) s.ranges.a.fits c.excess32.ensures in
-    let y = excess-is 32 _ (lit≤ tt) s.ranges.b.fits c.excess32-2.ensures in
-    c.narrow32.ensures ∙ ap double (difference-is 31 32 (lit≤ tt) x y s.ranges.b.fits)
+    let x = excess-is 32 _ (lit≤ tt) c.ranges.a.fits c.excess32.ensures in
+    let y = excess-is 32 _ (lit≤ tt) c.ranges.b.fits c.excess32-2.ensures in
+    c.narrow32.ensures ∙ ap double (difference-is 31 32 (lit≤ tt) x y c.ranges.b.fits)

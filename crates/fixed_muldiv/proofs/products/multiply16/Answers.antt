@@ -10,4 +10,4 @@ pub overflow_mul-x : goal.overflow_mul-x
 overflow_mul-x c = record { fits = search (product_lt 16 (2 ^ 32) tt) }
 
 pub returns : goal.returns
-returns c = let b = c.struct_known-1 in c.join16.ensures ∙ ap single (product_is b.before.split16.ensures b.split162.ensures)
+returns c = c.join16.ensures ∙ ap single (product_is c.split16-x.ensures c.split16-y.ensures)

@@ -13,4 +13,4 @@ pub join32-requires : goal.join32-requires
 join32-requires c = search (product_lt 32 (2 ^ 63) tt)
 
 pub returns : goal.returns
-returns c = let b = c.struct_known-1 in c.join32.ensures ∙ ap double (product_is b.before.split32.ensures b.split322.ensures)
+returns c = c.join32.ensures ∙ ap double (product_is c.split32-x.ensures c.split32-y.ensures)

@@ -16,4 +16,4 @@ pub join32-requires : goal.join32-requires
 join32-requires c = search (product_lt 16 (2 ^ 63) tt)
 
 pub returns : goal.returns
-returns c = let b = c.struct_known-1 in c.join32.ensures ∙ ap double (long-product-is b.before.split16.ensures b.split162.ensures)
+returns c = c.join32.ensures ∙ ap double (long-product-is c.split16-x.ensures c.split16-y.ensures)

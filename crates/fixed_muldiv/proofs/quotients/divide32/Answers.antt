@@ -8,13 +8,12 @@ use Rattle.fixed_muldiv.proofs.quotients.divide32.Goals as goal
 
 pub returns-then-y-eq0 : goal.returns-then-y-eq0
 unfolding double
-returns-then-y-eq0 c = let y = c.struct_known-1 in ap double (quotient-zero y.before.split32.ensures y.split322.ensures c.if-y-eq0.true)
+returns-then-y-eq0 c = ap double (quotient-zero c.split32-x.ensures c.split32-y.ensures c.if-y-eq0.true)
 
 pub join32-requires : goal.join32-requires
 join32-requires c = search (quotient-lt 32 (2 ^ 63) tt)
 
 pub returns : goal.returns
 returns c =
-    let t = c.struct_known-2-1 in
-    let y = t.before.before in
-    c.join32.ensures ∙ ap double (quotient_is y.before.split32.ensures y.split322.ensures t.if1.false)
+    let y = c in
+    c.join32.ensures ∙ ap double (quotient_is y.before.split32.ensures y.split322.ensures c.if-y-eq0.false)

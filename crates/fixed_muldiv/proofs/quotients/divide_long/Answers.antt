@@ -5,6 +5,5 @@ use Rattle.fixed_muldiv.proofs.quotients.divide_long.Goals as goal
 
 pub returns : goal.returns
 returns c =
-    let d = c.struct_known-1 in
-    let s = d.before.before in
-    long-divided-is d.before.split32.ensures s.split162.ensures s.before.split16.ensures d.divide.ensures
+    let s = c in
+    long-divided-is c.split32.ensures s.split162.ensures s.before.split16.ensures c.divide-q.ensures

@@ -12,4 +12,4 @@ pub returns-then-e-d : goal.returns-then-e-d
 returns-then-e-d c = c.zero-then-e-d.ensures ∙ whole_float (norm-under _ _ _ c.requires.0 c.requires.2 c.if-m-eq0.false _ c.distance-d.ensures.0 c.if-e-d.true)
 
 pub returns : goal.returns
-returns c = let s = c.if-e-d in c.plain.ensures ∙ whole_float (rw (moved _ _ _ _ s.before.before.requires.1 c.low.ensures) (norm-done _ _ _ s.before.before.requires.0 s.before.before.requires.2 s.before.if1.false _ s.distance.ensures.0 _ c.if-e-d.false))
+returns c = c.plain.ensures ∙ whole_float (rw (moved _ _ _ _ c.requires.1 c.low.ensures) (norm-done _ _ _ c.requires.0 c.requires.2 c.if-m-eq0.false _ c.distance-d.ensures.0 _ c.if-e-d.false))

@@ -10,9 +10,8 @@ overflow_add-x c = record { fits = sum_fits _ _ _ c.requires.1 c.shift-x.ensures
 
 pub returns : goal.returns
 returns c =
-    let s = c.fit in
-    let start = s.before.before.before.before.before in
+    let start = c in
     c.fit.ensures
     ∙ ap (given _)
-    (added _ _ _ _ _ _ _ _ _ _ start.requires.0 start.requires.2 start.requires.3 s.before.before.before.before.common.ensures.0
-    s.before.before.before.gap.ensures s.before.gap2.ensures s.before.before.shift.ensures s.shift2.ensures)
+    (added _ _ _ _ _ _ _ _ _ _ start.requires.0 start.requires.2 start.requires.3 c.common-e.ensures.0
+    c.gap.ensures c.gap-2.ensures c.shift-x.ensures c.shift-y.ensures)

@@ -7,9 +7,8 @@ use Rattle.float_add.proofs.stages.subtract.Goals as goal
 
 pub returns : goal.returns
 returns c =
-    let s = c.half-h in
-    let start = s.before.before.before.before.before in
+    let start = c in
     c.fit.ensures
     ∙ ap (given _)
-    (subtracted _ _ _ _ _ _ _ _ _ _ start.requires.0 start.requires.2 start.requires.3 s.before.before.before.before.common.ensures.0
-    s.before.before.before.gap.ensures s.before.gap2.ensures s.before.before.shift.ensures s.shift2.ensures c.half-h.ensures)
+    (subtracted _ _ _ _ _ _ _ _ _ _ start.requires.0 start.requires.2 start.requires.3 c.common-e.ensures.0
+    c.gap.ensures c.gap-2.ensures c.shift-x.ensures c.shift-y.ensures c.half-h.ensures)

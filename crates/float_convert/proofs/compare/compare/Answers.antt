@@ -12,18 +12,15 @@ returns-then-y-x c = is-above _ _ _ _ _ _ _ _ _ c.gap-n.ensures c.gap-k.ensures 
 
 pub returns-then-loses : goal.returns-then-loses
 returns-then-loses c =
-    let s = c.if-x-y in
-    lost-a _ _ _ _ _ _ _ _ _ s.before.before.before.gap.ensures s.before.before.gap2.ensures s.before.shift.ensures s.shift2.ensures
+    lost-a _ _ _ _ _ _ _ _ _ c.gap-n.ensures c.gap-k.ensures c.shift-x.ensures c.shift-y.ensures
     (search rules) (lost-yes _ c.loses.ensures c.if-loses.true)
 
 pub returns-then-loses-2 : goal.returns-then-loses-2
 returns-then-loses-2 c =
-    let s = c.if-x-y in
-    lost-b _ _ _ _ _ _ _ _ _ s.before.before.before.gap.ensures s.before.before.gap2.ensures s.before.shift.ensures s.shift2.ensures
+    lost-b _ _ _ _ _ _ _ _ _ c.gap-n.ensures c.gap-k.ensures c.shift-x.ensures c.shift-y.ensures
     (search rules) (lost-no _ c.loses.ensures c.if-loses.false) (lost-yes _ c.loses-2.ensures c.if-loses-2.true)
 
 pub returns : goal.returns
 returns c =
-    let s = c.if-x-y in
-    is-equal _ _ _ _ _ _ _ _ _ s.before.before.before.gap.ensures s.before.before.gap2.ensures s.before.shift.ensures s.shift2.ensures
+    is-equal _ _ _ _ _ _ _ _ _ c.gap-n.ensures c.gap-k.ensures c.shift-x.ensures c.shift-y.ensures
     (search rules) (lost-no _ c.loses.ensures c.if-loses.false) (lost-no _ c.loses-2.ensures c.if-loses-2.false)

@@ -8,16 +8,16 @@ use Rattle.image.proofs.questions.check.Goals as goal
 
 pub returns-then-not-whole_pages : goal.returns-then-not-whole_pages
 unfolding admission asked
-returns-then-not-whole_pages c = rw (← c.whole_pages.ensures, not-true c.whole_pages.result c.if-not-whole_pages.true) refl
+returns-then-not-whole_pages c = rw (← c.whole_pages.ensures, c.if-not-whole_pages.true) refl
 
 pub returns-then-pages-ne512 : goal.returns-then-pages-ne512
 unfolding admission asked
-returns-then-pages-ne512 c = rw (← c.whole_pages.ensures, not-false c.whole_pages.result c.if-not-whole_pages.false, ne_eqb _ _ c.if-pages-ne512.true) refl
+returns-then-pages-ne512 c = rw (← c.whole_pages.ensures, c.if-not-whole_pages.false, ne_eqb _ _ c.if-pages-ne512.true) refl
 
 pub returns-then-ports-ne1024 : goal.returns-then-ports-ne1024
 unfolding admission asked
-returns-then-ports-ne1024 c = rw (← c.whole_pages.ensures, not-false c.whole_pages.result c.if-not-whole_pages.false, eq-eqb _ _ c.if-pages-ne512.false, ne_eqb _ _ c.if-ports-ne1024.true) refl
+returns-then-ports-ne1024 c = rw (← c.whole_pages.ensures, c.if-not-whole_pages.false, eq-eqb _ _ c.if-pages-ne512.false, ne_eqb _ _ c.if-ports-ne1024.true) refl
 
 pub returns : goal.returns
 unfolding admission asked
-returns c = rw (← c.whole_pages.ensures, not-false c.whole_pages.result c.if-not-whole_pages.false, eq-eqb _ _ c.if-pages-ne512.false, eq-eqb _ _ c.if-ports-ne1024.false) c.check_image.ensures
+returns c = rw (← c.whole_pages.ensures, c.if-not-whole_pages.false, eq-eqb _ _ c.if-pages-ne512.false, eq-eqb _ _ c.if-ports-ne1024.false) c.check_image.ensures

@@ -7,7 +7,7 @@ use Rattle.text.specs.Texts.{Wrote}
 use Rattle.test_case.proofs.output.put_changes.Given as goal
 
 abbrev pub invariant-loop-n : goal.invariant-loop-n
-invariant-loop-n l = (l.n ≤ length l.after) × (Wrote l.initial.l.out l.at (changes_to l.kind l.before l.after l.n) l.out l.to) × (l.to ≤ l.at + 12 * l.n)
+invariant-loop-n l = (l.n ≤ length l.after) × (Wrote l.initial.out l.at (changes_to l.kind l.before l.after l.n) l.out l.to) × (l.to ≤ l.at + 12 * l.n)
 
 abbrev pub decreases-loop-n : goal.decreases-loop-n
 decreases-loop-n l = length l.after - l.n
