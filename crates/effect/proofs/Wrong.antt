@@ -8,7 +8,7 @@ use Rattle.page.specs.Spans.{wrapped}
 use Rattle.machine.specs.declared.Instruction.{Instruction}
 use Rattle.machine.specs.State.{cs_of}
 use Rattle.machine.specs.Machine.{Effect, next_of}
-use Rattle.isa.specs.Effects.{Context, fixed_overflow, float_faults, result, single, double, loaded, tested, stored, modified, replaced, nothing}
+use Rattle.isa.specs.Effects.{Context, fixed_overflow, float_faults, into_registers, single, double, loaded, tested, stored, modified, replaced, nothing}
 use Rattle.isa.proofs.OpenInstructions.{instructions}
 use Rattle.effect.specs.declared.Work.{Work}
 use Rattle.effect.specs.Work.{context, filled}
@@ -61,17 +61,17 @@ rows =
     -- apply: the value past R15 lost; a third value stored where there are two
     ∷ some (three_from 15 (filled regs two_from15)) (1 ∷ 2 ∷ 0x1001 ∷ []) (1 ∷ 0x1000 ∷ 0x1001 ∷ []) (1 ∷ 2 ∷ 3 ∷ [])
     -- shapes::result1: the old bits of PI lost; one word on after an instruction of two
-    ∷ some (kept 1 (result before long 1 (7 ∷ []) 4 0x0800))
+    ∷ some (kept 1 (into_registers before long 1 (7 ∷ []) 4 0x0800))
     (7 ∷ 0x1002 ∷ 0x1003 ∷ 0x0102 ∷ 4 ∷ 0x0801 ∷ [])
     (7 ∷ 0x1002 ∷ 0x1003 ∷ 0x0102 ∷ 4 ∷ 0x0800 ∷ [])
     (7 ∷ 0x1002 ∷ 0x1003 ∷ 0x0101 ∷ 4 ∷ 0x0801 ∷ [])
     -- shapes::result2: the value past R15 lost; the values exchanged
-    ∷ some (kept 15 (result before long 15 (7 ∷ 8 ∷ []) 4 0))
+    ∷ some (kept 15 (into_registers before long 15 (7 ∷ 8 ∷ []) 4 0))
     (7 ∷ 8 ∷ 0x1001 ∷ 0x0102 ∷ 4 ∷ 1 ∷ [])
     (7 ∷ 0x1000 ∷ 0x1001 ∷ 0x0102 ∷ 4 ∷ 1 ∷ [])
     (8 ∷ 7 ∷ 0x1001 ∷ 0x0102 ∷ 4 ∷ 1 ∷ [])
     -- shapes::result3: the third value lost; the second value twice
-    ∷ some (kept 14 (result before long 14 (7 ∷ 8 ∷ 9 ∷ []) 4 0))
+    ∷ some (kept 14 (into_registers before long 14 (7 ∷ 8 ∷ 9 ∷ []) 4 0))
     (7 ∷ 8 ∷ 9 ∷ 0x0102 ∷ 4 ∷ 1 ∷ [])
     (7 ∷ 8 ∷ 0x1000 ∷ 0x0102 ∷ 4 ∷ 1 ∷ [])
     (7 ∷ 8 ∷ 8 ∷ 0x0102 ∷ 4 ∷ 1 ∷ [])

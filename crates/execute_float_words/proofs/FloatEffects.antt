@@ -14,7 +14,7 @@ use Rattle.machine.specs.declared.Instruction.{Instruction}
 use Rattle.isa.specs.Fields.{field_a, register}
 use Rattle.isa.specs.Addressing.{accumulator}
 use Rattle.isa.specs.Words.{register_pair}
-use Rattle.isa.specs.Effects.{Context, fixed_overflow, result, tested}
+use Rattle.isa.specs.Effects.{Context, fixed_overflow, into_registers, tested}
 use Rattle.isa.specs.Floats.{float24, float40, both24, both40, combined24, combined40, changed24, to_integer, to_double_integer}
 use Rattle.execute_float_words.specs.declared.Both.{Both}
 use Rattle.execute_float_words.specs.Operands.{operands24, operands40}
@@ -43,10 +43,10 @@ unfolding both40 operands40
 compared40-is v n x y z c p ep ec = rw (ec, ep) refl
 
 -- as an integer
-pub integer-is : (v : Context) (n : Instruction) (x y a g i s b : ℕ) (o : Bool) (p : Both) → a ≡ field_a n.first → p ≡ operands24 v.regs n x y → g ≡ register v.regs a → i ≡ fixed_of 16 24 (signed 24 p.b) p.eb g → o ≡ too_large 16 p.eb → s ≡ status 16 i → b ≡ fixed_overflow o → result v n a (i ∷ []) s b ≡ to_integer v n x y
+pub integer-is : (v : Context) (n : Instruction) (x y a g i s b : ℕ) (o : Bool) (p : Both) → a ≡ field_a n.first → p ≡ operands24 v.regs n x y → g ≡ register v.regs a → i ≡ fixed_of 16 24 (signed 24 p.b) p.eb g → o ≡ too_large 16 p.eb → s ≡ status 16 i → b ≡ fixed_overflow o → into_registers v n a (i ∷ []) s b ≡ to_integer v n x y
 unfolding to_integer operands24
 integer-is v n x y a g i s b o p ea ep eg ei eo es eb = rw (eb, es, eo, ei, eg, ep, ea) refl
 
-pub double-integer-is : (v : Context) (n : Instruction) (x y z a g g' j i s b h l : ℕ) (o : Bool) (p : Both) → a ≡ field_a n.first → p ≡ operands40 v.regs n x y z → g ≡ register v.regs a → g' ≡ register v.regs (a + 1) → j ≡ pair g g' → i ≡ fixed_of 32 40 (signed 40 p.b) p.eb j → o ≡ too_large 32 p.eb → s ≡ status 32 i → b ≡ fixed_overflow o → h ≡ high_word i → l ≡ low_word i → result v n a (h ∷ l ∷ []) s b ≡ to_double_integer v n x y z
+pub double-integer-is : (v : Context) (n : Instruction) (x y z a g g' j i s b h l : ℕ) (o : Bool) (p : Both) → a ≡ field_a n.first → p ≡ operands40 v.regs n x y z → g ≡ register v.regs a → g' ≡ register v.regs (a + 1) → j ≡ pair g g' → i ≡ fixed_of 32 40 (signed 40 p.b) p.eb j → o ≡ too_large 32 p.eb → s ≡ status 32 i → b ≡ fixed_overflow o → h ≡ high_word i → l ≡ low_word i → into_registers v n a (h ∷ l ∷ []) s b ≡ to_double_integer v n x y z
 unfolding to_double_integer operands40 register_pair
 double-integer-is v n x y z a g g' j i s b h l o p ea ep eg eg' ej ei eo es eb eh el = rw (el, eh, eb, es, eo, ei, ej, eg', eg, ep, ea) refl

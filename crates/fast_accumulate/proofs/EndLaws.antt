@@ -27,7 +27,7 @@ use Rattle.machine.specs.Step.{affected, stored}
 use Rattle.isa.specs.Addressing.{in_memory}
 use Rattle.isa.specs.Accesses.{reads_of, writes_of}
 use Rattle.isa.specs.Fields.{with_register, with_registers}
-use Rattle.isa.specs.Effects.{fixed_overflow, three, effect, result}
+use Rattle.isa.specs.Effects.{fixed_overflow, three, effect, into_registers}
 use Rattle.isa.specs.Integers.{single_outcome, double_outcome}
 use Rattle.isa.specs.Execute.{executed}
 use Rattle.isa.specs.Mil1750.{class_of, context_of}
@@ -44,12 +44,12 @@ module _ (c r : Core) (regs : List ℕ) (n : Instruction) (k ic cs bits : ℕ) (
     (f : (x : List ℕ) (e : Effect) → e.ic ≡ ic → e.cs ≡ cs → e.pi ≡ bit_or c.pi bits → joined r e.regs ≡ affected (joined c x) e)
     (i : ic ≡ next_of n) (j : cs ≡ o.cs) (b : bits ≡ fixed_overflow o.overflow) where
   pub single-after : (after : List ℕ) → after ≡ with_register regs k o.value → joined r after ≡ affected (joined c regs) (single_outcome (context_of (joined c regs)) n k o)
-  unfolding single_outcome result effect with_registers context_of
+  unfolding single_outcome into_registers effect with_registers context_of
   single-after after h = rw h (f regs (single_outcome (context_of (joined c regs)) n k o) (sym i) (sym j) (ap (bit_or c.pi) (sym b)))
 
   pub double-after : (after : List ℕ) → after ≡ with_register (with_register regs k (high_word o.value)) (k + 1) (low_word o.value)
       → joined r after ≡ affected (joined c regs) (double_outcome (context_of (joined c regs)) n k o)
-  unfolding double_outcome result effect with_registers context_of
+  unfolding double_outcome into_registers effect with_registers context_of
   double-after after h = rw h (f regs (double_outcome (context_of (joined c regs)) n k o) (sym i) (sym j) (ap (bit_or c.pi) (sym b)))
 
 -- ---- a span of no words, of one, and of two

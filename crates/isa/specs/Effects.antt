@@ -33,24 +33,24 @@ unfoldable pub effect : Context → ℕ → List ℕ → ℕ → ℕ → ℕ →
 effect v k vs a cs bits ws = record { regs = with_registers v.regs k vs; ic = a; cs = cs; pi = bit_or v.pi bits; words = ws }
 
 -- registers from k on get values, CS is set, PI bits are added
-unfoldable pub result : Context → Instruction → ℕ → List ℕ → ℕ → ℕ → Effect
-result v n k vs cs bits = effect v k vs (next_of n) cs bits (three 0 0 0)
+unfoldable pub into_registers : Context → Instruction → ℕ → List ℕ → ℕ → ℕ → Effect
+into_registers v n k vs cs bits = effect v k vs (next_of n) cs bits (three 0 0 0)
 
 -- register k gets a word, and CS its status
 unfoldable pub single : Context → Instruction → ℕ → ℕ → Effect
-single v n k x = result v n k (x ∷ []) (status 16 x) 0
+single v n k x = into_registers v n k (x ∷ []) (status 16 x) 0
 
 -- registers k and k + 1 get a double word, and CS its status
 unfoldable pub double : Context → Instruction → ℕ → ℕ → Effect
-double v n k x = result v n k (high_word x ∷ low_word x ∷ []) (status 32 x) 0
+double v n k x = into_registers v n k (high_word x ∷ low_word x ∷ []) (status 32 x) 0
 
 -- register k gets a word
 unfoldable pub loaded : Context → Instruction → ℕ → ℕ → Effect
-loaded v n k x = result v n k (x ∷ []) (cs_of v.sw) 0
+loaded v n k x = into_registers v n k (x ∷ []) (cs_of v.sw) 0
 
 -- CS is set
 unfoldable pub tested : Context → Instruction → ℕ → Effect
-tested v n cs = result v n 0 [] cs 0
+tested v n cs = into_registers v n 0 [] cs 0
 
 -- up to three words are stored
 unfoldable pub stored : Context → Instruction → ℕ → ℕ → ℕ → Effect

@@ -17,17 +17,17 @@ use Rattle.machine.specs.Machine.{Effect}
 use Rattle.isa.specs.Fields.{field_a, register}
 use Rattle.isa.specs.Addressing.{operand_word, operand, double_operand, accumulator}
 use Rattle.isa.specs.Words.{register_pair}
-use Rattle.isa.specs.Effects.{Context, fixed_overflow, float_faults, result, tested, nothing}
+use Rattle.isa.specs.Effects.{Context, fixed_overflow, float_faults, into_registers, tested, nothing}
 
 -- registers from k on get a float, CS the status of its mantissa, and PI its faults
 unfoldable pub float24 : Context → Instruction → ℕ → Float → Effect
 float24 v n k f =
-    result v n k (first_word f.mantissa ∷ second_word f.mantissa f.exponent ∷ []) (status 24 f.mantissa) (float_faults f.overflow f.underflow)
+    into_registers v n k (first_word f.mantissa ∷ second_word f.mantissa f.exponent ∷ []) (status 24 f.mantissa) (float_faults f.overflow f.underflow)
 
 unfoldable pub float40 : Context → Instruction → ℕ → Float → Effect
 float40 v n k f =
     let u = f.mantissa / 65536 in
-    result v n k (first_word u ∷ second_word u f.exponent ∷ third_word f.mantissa ∷ []) (status 40 f.mantissa) (float_faults f.overflow f.underflow)
+    into_registers v n k (first_word u ∷ second_word u f.exponent ∷ third_word f.mantissa ∷ []) (status 40 f.mantissa) (float_faults f.overflow f.underflow)
 
 -- a function of two mantissas and exponents, of the accumulator and of the operand
 unfoldable pub both24 : {A : Type 0} → (ℤ → ℕ → ℤ → ℕ → A) → Context → Instruction → ℕ → ℕ → A
@@ -70,7 +70,7 @@ to_integer v n x y =
     let x' = operand_word v.regs n 0 x in
     let y' = operand_word v.regs n 1 y in
     let i = fixed_of 16 24 (signed 24 (mantissa24 x' y')) (exponent_of y') (register v.regs a) in
-    result v n a (i ∷ []) (status 16 i) (fixed_overflow (too_large 16 (exponent_of y')))
+    into_registers v n a (i ∷ []) (status 16 i) (fixed_overflow (too_large 16 (exponent_of y')))
 
 -- EFIX (5.87)
 unfoldable pub to_double_integer : Context → Instruction → ℕ → ℕ → ℕ → Effect
@@ -80,7 +80,7 @@ to_double_integer v n x y z =
     let y' = operand_word v.regs n 1 y in
     let z' = operand_word v.regs n 2 z in
     let i = fixed_of 32 40 (signed 40 (mantissa40 x' y' z')) (exponent_of y') (register_pair v.regs a) in
-    result v n a (high_word i ∷ low_word i ∷ []) (status 32 i) (fixed_overflow (too_large 32 (exponent_of y')))
+    into_registers v n a (high_word i ∷ low_word i ∷ []) (status 32 i) (fixed_overflow (too_large 32 (exponent_of y')))
 
 -- 5.60 to 5.62, 5.68 to 5.70, 5.74, 5.75, 5.79, 5.80, 5.85 to 5.88, 5.94, 5.95: FA EFA FABS, FS EFS FNEG, FM EFM, FD EFD, FIX FLT EFIX EFLT, FC EFC
 unfoldable pub float_operation : Context → Instruction → ℕ → ℕ → ℕ → ℕ → Effect

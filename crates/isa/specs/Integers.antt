@@ -14,15 +14,15 @@ use Rattle.machine.specs.Machine.{Effect}
 use Rattle.isa.specs.Fields.{field_a, register}
 use Rattle.isa.specs.Addressing.{operand, double_operand, accumulator}
 use Rattle.isa.specs.Words.{register_pair}
-use Rattle.isa.specs.Effects.{Context, fixed_overflow, result, single, tested, modified, nothing}
+use Rattle.isa.specs.Effects.{Context, fixed_overflow, into_registers, single, tested, modified, nothing}
 
 -- register k gets an outcome of 16 bits
 unfoldable pub single_outcome : Context → Instruction → ℕ → Outcome → Effect
-single_outcome v n k o = result v n k (o.value ∷ []) o.cs (fixed_overflow o.overflow)
+single_outcome v n k o = into_registers v n k (o.value ∷ []) o.cs (fixed_overflow o.overflow)
 
 -- registers k and k + 1 get one of 32 bits
 unfoldable pub double_outcome : Context → Instruction → ℕ → Outcome → Effect
-double_outcome v n k o = result v n k (high_word o.value ∷ low_word o.value ∷ []) o.cs (fixed_overflow o.overflow)
+double_outcome v n k o = into_registers v n k (high_word o.value ∷ low_word o.value ∷ []) o.cs (fixed_overflow o.overflow)
 
 -- the memory word gets one of 16 bits
 unfoldable pub memory_outcome : Context → Instruction → Outcome → Effect
@@ -30,7 +30,7 @@ memory_outcome v n o = modified v n o.value o.cs (fixed_overflow o.overflow)
 
 -- registers k and k + 1 get a quotient and its remainder
 unfoldable pub quotient_outcome : Context → Instruction → ℕ → Quotient → Effect
-quotient_outcome v n k q = result v n k (q.quotient ∷ q.remainder ∷ []) q.cs (fixed_overflow q.overflow)
+quotient_outcome v n k q = into_registers v n k (q.quotient ∷ q.remainder ∷ []) q.cs (fixed_overflow q.overflow)
 
 -- 5.55 to 5.59, 5.63 to 5.67, 5.71 to 5.73, 5.76 to 5.78: A INCM ABS DABS DA, S DECM NEG DNEG DS, MS M DM, DV D DD
 unfoldable pub integer_operation : Context → Instruction → ℕ → ℕ → ℕ → Effect

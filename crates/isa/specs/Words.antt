@@ -16,7 +16,7 @@ use Rattle.machine.specs.State.{cs_of}
 use Rattle.machine.specs.Machine.{Effect, next_of}
 use Rattle.isa.specs.Fields.{field_a, field_b, register}
 use Rattle.isa.specs.Addressing.{operand, double_operand, accumulator}
-use Rattle.isa.specs.Effects.{Context, fixed_overflow, three, effect, result, single, double, loaded, tested, modified, stored, replaced, jumped, nothing}
+use Rattle.isa.specs.Effects.{Context, fixed_overflow, three, effect, into_registers, single, double, loaded, tested, modified, stored, replaced, jumped, nothing}
 
 -- the double word of register k and the next
 unfoldable pub register_pair : List ℕ → ℕ → ℕ
@@ -43,11 +43,11 @@ bit_operation v n x operation =
 
 -- RA, or RA and RA + 1, after a shift by a count in a register
 unfoldable pub shifted_single : Context → Instruction → Shifted → Effect
-shifted_single v n s = result v n (field_a n.first) (s.value ∷ []) (status 16 s.value) (fixed_overflow s.overflow)
+shifted_single v n s = into_registers v n (field_a n.first) (s.value ∷ []) (status 16 s.value) (fixed_overflow s.overflow)
 
 unfoldable pub shifted_double : Context → Instruction → Shifted → Effect
 shifted_double v n s =
-    result v n (field_a n.first) (high_word s.value ∷ low_word s.value ∷ []) (status 32 s.value) (fixed_overflow s.overflow)
+    into_registers v n (field_a n.first) (high_word s.value ∷ low_word s.value ∷ []) (status 32 s.value) (fixed_overflow s.overflow)
 
 -- 5.10 to 5.23: SLL SRL SRA SLC, DSLL DSRL DSRA DSLC, SLR SAR SCR, DSLR DSAR DSCR
 unfoldable pub shift_operation : Context → Instruction → ℕ → Effect
@@ -106,7 +106,7 @@ load_operation v n x y z operation =
     select operation
     ((38, single v n (accumulator n) o) ∷
     (39, double v n (accumulator n) (double_operand v.regs n x y)) ∷
-    (41, result v n a (x ∷ y ∷ z ∷ []) (status 40 (mantissa40 x y z)) 0) ∷
+    (41, into_registers v n a (x ∷ y ∷ z ∷ []) (status 40 (mantissa40 x y z)) 0) ∷
     (42, single v n a (load_upper ra o)) ∷
     (43, single v n a (load_lower ra o)) ∷
     [])

@@ -15,7 +15,7 @@ use Rattle.decode.specs.Forms.{length_of}
 use Rattle.decode.specs.Pages.{Line, pages}
 use Rattle.decode.specs.Decode.{line_form, first_of, decode_of}
 use Rattle.line_operand.specs.declared.Place.{Place}
-use Rattle.line_operand.specs.declared.Place.TheVariants.{Lower, Upper, Base, Top, Second}
+use Rattle.line_operand.specs.declared.Place.TheVariants.{Lower, Upper, Base, Top, Second, Nowhere, Byte}
 use Rattle.line_operand.specs.declared.Parsed.{Parsed}
 use Rattle.line_operand.specs.declared.Parsed.TheVariants.{Malformed, Outside, Value}
 use Rattle.line_operand.specs.Numerals.{before, onward}
@@ -126,6 +126,8 @@ module _ (w v : ℕ) (h : w < 65536) (k : v < 65536) (l : Line) (s : Sound l) (p
       made-lower : (f x y : ℕ) → x < 16 → y < 16 → (f * 256 + 16 * x + y) / 1 % 16 ≡ y
       made-lower f x y i j = omega arith
   clear-digit Second second x = absurd (false≢true (sym x))
+  clear-digit Nowhere d x = elim d [ ]
+  clear-digit Byte d x = elim d [ ]
 
   clear-small : cleared_word l w < 65536
   unfolding cleared_word

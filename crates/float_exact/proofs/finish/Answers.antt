@@ -26,8 +26,8 @@ overflow_sub-m c = omega (arith, tail-high 40 c.args.q (lit≤ tt) c.requires.0 
 
 pub returns-then-neg : goal.returns-then-neg
 unfolding tail
-returns-then-neg c = let s = c in c.plain.ensures ∙ ranged-neg 40 _ _ _ _ c.if-p-t.false c.if-e-gt255.false (lit≤ tt) (tail-high 40 s.args.q (lit≤ tt) s.requires.0 (search rules)) c.if-neg.true
+returns-then-neg c = c.plain.ensures ∙ ranged-neg 40 _ _ _ _ c.if-p-t.false c.if-e-gt255.false (lit≤ tt) (tail-high 40 c.args.q (lit≤ tt) c.requires.0 (search rules)) c.if-neg.true
 
 pub returns : goal.returns
 unfolding tail
-returns c = let s = c in c.plain-2.ensures ∙ ranged-pos 40 _ _ _ _ c.if-p-t.false c.if-e-gt255.false (lit≤ tt) (tail-high 40 s.args.q (lit≤ tt) s.requires.0 (search rules)) c.if-neg.false
+returns c = c.plain-2.ensures ∙ ranged-pos 40 _ _ _ _ c.if-p-t.false c.if-e-gt255.false (lit≤ tt) (tail-high 40 c.args.q (lit≤ tt) c.requires.0 (search rules)) c.if-neg.false

@@ -27,9 +27,7 @@ returns-then-b-eq0 c =
 
 pub returns : goal.returns
 returns c =
-    let y = c in
-    let i = y.before.before.before.before.before in
     let q = c.product-q.result in
     c.finish.ensures ∙ ap (given 40)
-    (product-done 40 _ _ _ _ i.before.if1.false i.if2.false q 147 20 (tail 40 q) y.before.lead.ensures y.lead2.ensures i.before.before.signs-differ.ensures c.product-q.ensures.0
+    (product-done 40 _ _ _ _ c.if-n-gt383.false c.if-n-lt128.false q 147 20 (tail 40 q) c.lead-x.ensures c.lead-y.ensures c.signs_differ-neg.ensures c.product-q.ensures.0
     refl (lit≤ tt) (tail-low 40 q (lit≤ tt) c.product-q.ensures.1 (search rules)) (tail-high 40 q (lit≤ tt) c.product-q.ensures.1 (search rules)))

@@ -15,12 +15,12 @@ returns-in-83890944 c = rw (decoded _ c.args.first c.requires (search rules), c.
 
 pub returns-in-83896576 : goal.returns-in-83896576
 unfolding extended
-returns-in-83896576 c = rw (decoded _ c.args.first c.requires (search rules), c.in-83890944.keys2) c.immediate.ensures
+returns-in-83896576 c = rw (decoded _ c.args.first c.requires (search rules), c.in-83896576.is) c.immediate.ensures
 
 pub returns-in-83890176 : goal.returns-in-83890176
 unfolding extended
-returns-in-83890176 c = rw (decoded _ c.args.first c.requires (search rules), c.in-83890944.keys3) c.special.ensures
+returns-in-83890176 c = rw (decoded _ c.args.first c.requires (search rules), c.in-83890176.is) c.special.ensures
 
 pub returns-in_default : goal.returns-in_default
 unfolding extended
-returns-in_default c = rw (decoded _ c.args.first c.requires (search rules)) (sym (otherwise _ (extended _ _) _ c.in-83890944.rest))
+returns-in_default c = rw (decoded _ c.args.first c.requires (search rules)) (sym (otherwise _ (extended _ _) _ c.in_default.in_default-own.rest))

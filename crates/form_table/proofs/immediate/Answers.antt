@@ -11,4 +11,4 @@ use Rattle.form_table.proofs.immediate.Goals as goal
 
 pub returns : goal.returns
 unfolding pages number_of rule_of counts_of need_of exceptions path_of words_read words_written in_memory
-returns c = tabled (λ (k : ℕ). number_of (form_claimed 0x4A 0 k)) 16 c.args.lower (array-read-result c)
+returns c = tabled (λ (k : ℕ). number_of (form_claimed 0x4A 0 k)) 16 c.args.lower (search rules)

@@ -11,4 +11,4 @@ use Rattle.form_table.proofs.indexed.Goals as goal
 
 pub returns : goal.returns
 unfolding pages number_of rule_of counts_of need_of exceptions path_of words_read words_written in_memory
-returns c = tabled (λ (k : ℕ). number_of (form_claimed 0x40 k 0)) 16 c.args.upper (array-read-result c)
+returns c = tabled (λ (k : ℕ). number_of (form_claimed 0x40 k 0)) 16 c.args.upper (search rules)

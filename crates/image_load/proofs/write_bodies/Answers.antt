@@ -35,7 +35,7 @@ pub overflow_mul-at-in-loop-left : goal.overflow_mul-at-in-loop-left
 overflow_mul-at-in-loop-left c = omega (arith, body-inside _ _ _ c.entry_at-e.ensures _ c.loop-left.invariant.1 _ (table-sound _ _ c.requires.0 c.requires.1) _ c.loop-left.invariant.0 c.loop-left-test.true)
 
 pub overflow_add-at-in-loop-left : goal.overflow_add-at-in-loop-left
-overflow_add-at-in-loop-left c = omega (arith, c.well-formed.1.0.0, body-inside _ _ _ c.entry_at-e.ensures _ c.loop-left.invariant.1 _ (table-sound _ _ c.requires.0 c.requires.1) _ c.loop-left.invariant.0 c.loop-left-test.true)
+overflow_add-at-in-loop-left c = omega (arith, c.well_formed.1.0.0, body-inside _ _ _ c.entry_at-e.ensures _ c.loop-left.invariant.1 _ (table-sound _ _ c.requires.0 c.requires.1) _ c.loop-left.invariant.0 c.loop-left-test.true)
 
 pub overflow_add-k : goal.overflow_add-k
 overflow_add-k c = omega arith

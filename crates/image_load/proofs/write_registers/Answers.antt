@@ -6,7 +6,7 @@ use native.Mathlib.Omega.{arith}
 use Rattle.image_load.proofs.write_registers.Goals as goal
 
 pub write_words-requires : goal.write_words-requires
-write_words-requires c = let l : 16 ≡ length c.args.s.regs = slice-aggregate-write-words c in (omega (arith, c.requires.0), c.requires.1)
+write_words-requires c = let l : 16 ≡ length c.args.s.regs = search rules in (omega (arith, c.requires.0), c.requires.1)
 
 pub returns : goal.returns
 returns c = rw c.write_words.ensures refl

@@ -5,4 +5,4 @@ use native.Mathlib.Omega.{arith}
 use Rattle.test_cases.proofs.write.Goals as goal
 
 pub slice_bounds-write_all-end : goal.slice_bounds-write_all-end
-slice_bounds-write_all-end c = omega (arith, length-take c.args.end c.args.out.now)
+slice_bounds-write_all-end g c = omega (arith, length-take c.args.end c.args.out.now)

@@ -15,7 +15,7 @@ returns-in-512-to-1535 c = c.derive_short.ensures c.args.ic c.args.second
 
 pub returns-in-1536-to-2303 : goal.returns-in-1536-to-2303
 unfolding derived_from wrapped
-returns-in-1536-to-2303 c = (rw (← c.field_b.ensures.0) c.index_by.ensures) ∙ indexed-modes c.args.form _ c.args.ic _ _ c.if-this-lt1536.false c.in-1536-to-2303.if-this-lt2304-own.true
+returns-in-1536-to-2303 c = (rw (← c.field_b.ensures.0) c.index_by.ensures) ∙ indexed-modes c.args.form _ c.args.ic _ _ c.in-1536-to-2303.if-this-lt1536-own.false c.in-1536-to-2303.if-this-lt2304-own.true
 
 pub returns-in-2304-to-2559 : goal.returns-in-2304-to-2559
 unfolding derived_from wrapped

@@ -16,7 +16,7 @@ returns-in-16393 c = λ s core. rw c.in-16393.is (ap (with_clock (with_processor
 
 pub returns-in-16394 : goal.returns-in-16394
 unfolding timer_command with_ta with_tb with_rem_a with_rem_b with_ta_on with_tb_on
-returns-in-16394 c = λ s core. rw (c.in-16392.keys3, ← c.get.ensures) (ap (with_clock (with_processor s (joined core c.args.regs.now))) c.set_timer_a-in-16394.ensures)
+returns-in-16394 c = λ s core. rw (c.in-16394.is, ← c.get.ensures) (ap (with_clock (with_processor s (joined core c.args.regs.now))) c.set_timer_a-in-16394.ensures)
 
 pub returns-in-16396 : goal.returns-in-16396
 unfolding timer_command with_ta with_tb with_rem_a with_rem_b with_ta_on with_tb_on
@@ -28,7 +28,7 @@ returns-in-16397 c = λ s core. rw c.in-16397.is (ap (with_clock (with_processor
 
 pub returns-in-16398 : goal.returns-in-16398
 unfolding timer_command with_ta with_tb with_rem_a with_rem_b with_ta_on with_tb_on
-returns-in-16398 c = λ s core. rw (c.in-16392.keys6, ← c.get-in-16398.ensures) (ap (with_clock (with_processor s (joined core c.args.regs.now))) c.set_timer_b-in-16398.ensures)
+returns-in-16398 c = λ s core. rw (c.in-16398.is, ← c.get-in-16398.ensures) (ap (with_clock (with_processor s (joined core c.args.regs.now))) c.set_timer_b-in-16398.ensures)
 
 pub returns-in-49162 : goal.returns-in-49162
 unfolding timer_command with_ta with_tb with_rem_a with_rem_b with_ta_on with_tb_on

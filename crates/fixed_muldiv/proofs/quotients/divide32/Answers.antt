@@ -15,5 +15,4 @@ join32-requires c = search (quotient-lt 32 (2 ^ 63) tt)
 
 pub returns : goal.returns
 returns c =
-    let y = c in
-    c.join32.ensures ∙ ap double (quotient_is y.before.split32.ensures y.split322.ensures c.if-y-eq0.false)
+    c.join32.ensures ∙ ap double (quotient_is c.split32-x.ensures c.split32-y.ensures c.if-y-eq0.false)

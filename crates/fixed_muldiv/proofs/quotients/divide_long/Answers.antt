@@ -5,5 +5,4 @@ use Rattle.fixed_muldiv.proofs.quotients.divide_long.Goals as goal
 
 pub returns : goal.returns
 returns c =
-    let s = c in
-    long-divided-is c.split32.ensures s.split162.ensures s.before.split16.ensures c.divide-q.ensures
+    long-divided-is c.split32.ensures c.split16-y.ensures c.split16-high.ensures c.divide-q.ensures

@@ -10,8 +10,7 @@ overflow_add-x c = record { fits = sum_fits _ _ _ c.requires.1 c.shift-x.ensures
 
 pub returns : goal.returns
 returns c =
-    let start = c in
     c.fit.ensures
     ∙ ap (given _)
-    (added _ _ _ _ _ _ _ _ _ _ start.requires.0 start.requires.2 start.requires.3 c.common-e.ensures.0
+    (added _ _ _ _ _ _ _ _ _ _ c.requires.0 c.requires.2 c.requires.3 c.common-e.ensures.0
     c.gap.ensures c.gap-2.ensures c.shift-x.ensures c.shift-y.ensures)

@@ -7,8 +7,7 @@ use Rattle.float_add.proofs.stages.subtract.Goals as goal
 
 pub returns : goal.returns
 returns c =
-    let start = c in
     c.fit.ensures
     ∙ ap (given _)
-    (subtracted _ _ _ _ _ _ _ _ _ _ start.requires.0 start.requires.2 start.requires.3 c.common-e.ensures.0
+    (subtracted _ _ _ _ _ _ _ _ _ _ c.requires.0 c.requires.2 c.requires.3 c.common-e.ensures.0
     c.gap.ensures c.gap-2.ensures c.shift-x.ensures c.shift-y.ensures c.half-h.ensures)
