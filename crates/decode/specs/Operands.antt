@@ -3,8 +3,8 @@
 use Rattle.std.specs.Prelude.{ℕ}
 
 -- a general register in bits 8 to 11, and in bits 12 to 15
-abbrev pub Ra : ℕ
-Ra = 1
+abbrev pub RA : ℕ
+RA = 1
 
 abbrev pub RB : ℕ
 RB = 2

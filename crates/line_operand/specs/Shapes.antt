@@ -1,7 +1,7 @@
 -- The places of fields in an instruction, which is one number: its first word, and 65,536 times its second one; and the shapes of operands. Assumes nothing.
 use Rattle.std.specs.Prelude.{ℕ, ◌-◌, ◌/◌, ◌%◌, ◌^◌, Bool, false, ◌&&◌, ◌||◌, List, [], ◌∷◌, ltb}
 use Rattle.choice.specs.Select.{select}
-use Rattle.decode.specs.Operands.{Ra, RB, BR, RX, N, N1, N12, NI, DSPL, LABEL8, ADDR, Z8, Z12}
+use Rattle.decode.specs.Operands.{RA, RB, BR, RX, N, N1, N12, NI, DSPL, LABEL8, ADDR, Z8, Z12}
 use Rattle.line_operand.specs.declared.Place.{Place}
 use Rattle.line_operand.specs.declared.Place.TheVariants.{Nowhere, Lower, Upper, Byte, Base, Top, Second}
 use Rattle.line_operand.specs.declared.Kind.{Kind}
@@ -58,7 +58,7 @@ shape k p low = record { kind = k; place = p; low = low }
 -- the shape of each operand that the boxes show: how it is spelt, where it stands, and the number that its field holds as 0
 unfoldable pub shapes : List (ℕ × Shape)
 shapes =
-    (Ra, shape Register Upper 0) ∷
+    (RA, shape Register Upper 0) ∷
     (RB, shape Register Lower 0) ∷
     (BR, shape Register Base 12) ∷
     (RX, shape Index Lower 0) ∷

@@ -55,7 +55,7 @@ fn read_some<S: Read, P: Print>(
     out: &mut [u8; 262144],
 ) -> io::Result<Part> {
     let mut piece = [0u8; 32768];
-    let n = read_full(from, &mut piece)?;
+    let n = read_full(from, &mut piece);
     let reading = take_all(to, r, &piece[..n], memory, pages, ports, out)?;
     Ok(Part {
         reading,

@@ -8,6 +8,9 @@ use Rattle.line_request.proofs.answer.answer.Goals as goal
 pub slice_bounds-read_answer-count : goal.slice_bounds-read_answer-count
 slice_bounds-read_answer-count c = omega (arith, read-long c.args.line.now (sym c.request-asked.ensures ∙ c.in-Read.is))
 
+pub slice_bounds-read_answer-start : goal.slice_bounds-read_answer-start
+slice_bounds-read_answer-start c = omega (arith, read-long c.args.line.now (sym c.request-asked.ensures ∙ c.in-Read.is))
+
 pub returns-in-Print : goal.returns-in-Print
 unfolding answer_by answer_to
 returns-in-Print c = rw (← c.request-asked.ensures, c.in-Print.is) c.print_answer.ensures
