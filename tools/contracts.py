@@ -8,7 +8,7 @@ Run it in the repository's root. It prints what is wrong, and ends with status 1
 - a `pub fn` that no other crate calls, unless docs/CONTRACTS.md has it among the users' contracts;
 - a must-fail edit whose old text does not stand exactly once in its file, or whose first line is not `CONTRACT: wrong answer.`, the contract being a function of its crate (`crate::module::function`) or,
   where the edit changes specs/, a definition (`crate/File: name`);
-- a users' contract with a `requires`, without two wrong answers in its table of docs/CONTRACTS.md, or without two edits there unless it is `r ≡ definition`; an edit there that does not exist or
+- a users' contract with a `requires`, without two wrong answers in its table of docs/CONTRACTS.md, or without two edits there unless it is `result ≡ definition`; an edit there that does not exist or
   tries another contract, a `row` there whose wrong answer no row of the contract names; the same, but for the `requires`, in the table of what the C calls are made of;
 - another public contract with neither a row in its crate's proofs/Wrong.antt, which names two wrong answers, nor two edits.
 """
@@ -47,12 +47,13 @@ def functions(modules, kind=''):
 def called(modules):
     """The paths into other crates that some crate names, `use` items with braces taken apart."""
     names = set()
-    for (crate, _), text in modules.items():
+    for text in modules.values():
+        imported = re.findall(r'^use ([\w:]+);', text, flags=re.M)
         for head, inner in re.findall(r'\b([\w:]+)::\{([^}]*)\}', text):
-            names |= {f'{head}::{name.strip()}' for name in inner.split(',')}
-        names |= set(re.findall(r'\b\w+(?:::\w+)+', text))
-        imported = re.findall(r'^use (\w+)::(\w+);', text, flags=re.M)
-        names |= {f'{other}::{module}::{name}' for other, module in imported for name in re.findall(rf'\b{module}::(\w+)', text)}
+            imported += [f'{head}::{name.strip()}' for name in inner.split(',') if name.strip()]
+        paths, local = re.findall(r'\b\w+(?:::\w+)+', text), {path.split('::')[-1]: path for path in imported}
+        names |= {*imported, *paths}
+        names |= {f'{local[head]}::{rest}' for head, _, rest in (path.partition('::') for path in paths) if head in local}
     return names
 
 
@@ -73,7 +74,7 @@ def unfit(path):
 
 def tried(line):
     """The contract that the first line of an edit names."""
-    found = re.match(r'([\w/]+: [\w\-′·]+|\w+(?:::\w+)+): .+\.$', line)
+    found = re.match(r"([\w/]+: [\w'-]+|\w+(?:::\w+)+): .+\.$", line)
     return found.group(1) if found else None
 
 
@@ -122,7 +123,8 @@ def heads(modules):
 
 def faults_of(name, answers, edited, named, head):
     """What is wrong with the wrong answers of a contract that the page lists: these, its edits, and the wrong answers that its rows name."""
-    by_edits, equation = [means for _, means in answers if means != 'row'], re.search(r'ensures \{ λ (\w+)\. ⌜ \1 ≡ [^×]*⌝ \}\s*$', head)
+    by_edits = [means for _, means in answers if means != 'row']
+    equation = len(re.findall(r'\bensures\b', head)) == 1 and re.search(r'\bensures(?: \w+)? \{ result ≡ [^×]* \}\s*$', head)
     yield from (f'{PAGE}: {edit} is no edit of {name}' for edit in by_edits if edit not in edited)
     yield from (f'{PAGE}: {name} lacks {edit}' for edit in edited if edit not in by_edits)
     yield from (f'{PAGE}: no row of {name} names `{answer}`' for answer, means in answers if means == 'row' and answer not in named)
@@ -148,7 +150,7 @@ def main(words):
         if name in users | inner:
             wrong += faults_of(name, (users | inner)[name], by_edit.get(name, []), by_row.get(name, []), head[name])
         if name in users:
-            wrong += [f'{name}: called by users, and has a `requires`'] if 'requires {' in head[name] else []
+            wrong += [f'{name}: called by users, and has a `requires`'] if re.search(r'\brequires\b', head[name]) else []
         elif name not in names:
             wrong.append(f'{name}: public, and no other crate calls it')
         elif name not in by_row and len(by_edit.get(name, [])) < 2:

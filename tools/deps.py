@@ -18,10 +18,13 @@ def read(path):
 
 def unused():
     for line in read('crates.txt').split('\n'):
-        name, _, named = line.split('#')[0].partition(':')
-        text = '\n'.join(read(path) for kind in ('rt', 'antt') for path in glob.glob(f'crates/{name.strip()}/**/*.{kind}', recursive=True))
+        head, _, named = line.split('#')[0].partition(':')
+        # `NAME staticlib`, of a static library
+        name = ''.join(head.split()[:1])
+        files = [path for part in ('src', 'specs', 'proofs') for path in glob.glob(f'crates/{name}/{part}/**/*.*', recursive=True)]
+        text = '\n'.join(read(path) for path in files)
         for other in named.split():
-            if (name, other) not in UNNAMED and not re.search(rf'\b{other}::|Rattle·{other}\.', text):
+            if (name, other) not in UNNAMED and not re.search(rf'\b{other}::|\bRattle\.{other}\.', text):
                 yield f'crates.txt: {name} does not use {other}'
 
 

@@ -1,6 +1,6 @@
 #!/usr/bin/env bash
 # Counts the instructions that one step takes, of the twin and of the second simulator, on each benchmark program, by valgrind's callgrind: the difference between
-# runs of 200,000 and of 100,000 steps. Run `rt staticlib capi` first. The counts are repeatable, whatever else the machine does.
+# runs of 200,000 and of 100,000 steps. Run `rt lib` in crates/capi first. The counts are repeatable, whatever else the machine does.
 set -euo pipefail
 cd "$(dirname "$0")/../comparison"
 cargo build --release --quiet --offline --bin steps

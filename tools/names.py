@@ -9,10 +9,12 @@ import re
 import sys
 
 # the words of the pages' own patterns, and what is no Rattle crate
-OTHERS = ('crate', 'simulator', 'libc')
+OTHERS = ('crate', 'simulator', 'std')
 # the folders at which a path starts, and what stands for a name in one
-FOLDERS = ('answers', 'comparison', 'crates', 'docs', 'examples', 'interface', 'simulator', 'tools')
-STAND_INS = ('CRATE', 'LABEL')
+FOLDERS = ('comparison', 'crates', 'docs', 'examples', 'interface', 'simulator', 'tools')
+STAND_INS = ('CRATE', 'LABEL', 'FN')
+# what a check or a build writes is not committed
+MADE = re.compile(r'crates/\w+/out/')
 
 
 def text(crate, *parts):
@@ -21,7 +23,7 @@ def text(crate, *parts):
 
 
 def has(crate, name, *parts):
-    return re.search(r'(?<![\w-])' + re.escape(name) + r'(?![\w-])', text(crate, *parts))
+    return re.search(r"(?<![\w'-])" + re.escape(name) + r"(?![\w'-])", text(crate, *parts))
 
 
 def missing_definitions(crate, file, names):
@@ -39,11 +41,11 @@ def missing_function(crate, path):
 
 def missing_paths(quoted):
     paths = re.findall(r'(?<!\S)(?:%s)/[\w./-]*' % '|'.join(FOLDERS), quoted)
-    return [path for path in paths if not any(word in path for word in STAND_INS) and not os.path.exists(path)]
+    return [path for path in paths if not any(word in path for word in STAND_INS) and not MADE.match(path) and not os.path.exists(path)]
 
 
 def missing_names(quoted):
-    found = re.fullmatch(r'(\w+)(?:/(?:specs/|proofs/)?(\w+))?: ([\w, -]+)', quoted)
+    found = re.fullmatch(r"(\w+)(?:/(?:specs/|proofs/)?(\w+))?: ([\w', -]+)", quoted)
     crates = [found.group(1)] if found else [part[0] for part in re.findall(r'(\w+)((?:::\w+)+)', quoted)]
     crates = [crate for crate in crates if crate not in OTHERS]
     unknown = [crate for crate in crates if not os.path.isdir(f'crates/{crate}')]

@@ -29,18 +29,17 @@ def read(path):
         return file.read()
 
 
-def modules(crate, own):
-    """The modules of a crate that have definitions, as the crate `own` names them, with the definitions."""
+def modules(crate):
+    """The modules of a crate that have definitions, with the definitions."""
     for file in sorted(glob.glob(f'crates/{crate}/specs/*.antt')):
         found = DEFINED.findall(read(file))
         if found:
-            place = f'Rattle·{crate}·specs.specs' if crate == own else f'Rattle·{crate}.specs'
-            yield f'{place}.{os.path.basename(file)[:-5]}', found
+            yield f'Rattle.{crate}.specs.{os.path.basename(file)[:-5]}', found
 
 
 def text(file):
     name, what, crates = GROUPS[file]
-    opened = [module for crate in crates for module in modules(crate, file.split('/')[0])]
+    opened = [module for crate in crates for module in modules(crate)]
     return (f'-- Opens every definition {what} at once: `unfolding {name}`. Written by tools/open.py. Assumes nothing.\n'
             + ''.join(f'use {path}.{{{", ".join(found)}}}\n' for path, found in opened)
             + f'\nunfoldable pub {name} : Unit {{0}}\nunfolding {" ".join(name for _, found in opened for name in found)}\n{name} = tt\n')
@@ -50,7 +49,7 @@ def unknown():
     """The crates with definitions that no group has, among those that `isa` names."""
     below = re.search(r'^isa: (.*)$', read('crates.txt'), flags=re.M).group(1).split()
     known = {crate for _, _, crates in GROUPS.values() for crate in crates}
-    return [crate for crate in below if crate not in known and any(modules(crate, ''))]
+    return [crate for crate in below if crate not in known and any(modules(crate))]
 
 
 def main(words):

@@ -1,7 +1,8 @@
 #!/usr/bin/env bash
-# Runs every test of the twin. First the Rattle gate, `rt ci`, from nothing: it proves every crate, refuses every must-fail edit and runs each program. Then, on
-# the crates that it proved: the C interface from C and from Rust, the second simulator, the comparison of both, and the checks of documents, proofs and layout.
-# The last line is the gate's closing line, printed again where everything passed; else it says what failed, and the status is not 0.
+# Runs every test of the twin. First the Rattle gate, `rt ci`: it proves every crate, has every must-fail edit refused, runs each test and program, and refuses files
+# that are not laid out. Then, on the programs that it built and on the library: the C interface from C and from Rust, the second simulator, the comparison of both, and
+# the checks of documents and definitions. The last line is the gate's closing line, printed again where everything passed; else it says what failed, and the status
+# is not 0.
 set -euo pipefail
 cd "$(dirname "$0")/.."
 command -v cargo >/dev/null || export PATH="$HOME/.cargo/bin:$PATH"
@@ -13,28 +14,35 @@ part() {
 
 ended() {
     status=$?
-    rm -f "$log"
+    rm -rf "$room"
     [ "$status" -eq 0 ] || printf 'FAILED: %s (status %s)\n' "$now" "$status"
 }
 
-# checks that run beside each other, in batches that wait for their slowest: more than there are cores keep these busy
-export RT_JOBS="${RT_JOBS:-4}"
-log=$(mktemp)
+room=$(mktemp -d)
 now='the start'
 trap ended EXIT
 trap 'exit 1' HUP INT TERM
 
-part 'rt ci: every crate, must-fail edit and program'
-rt ci 2>&1 | tee "$log"
-closing=$(tail -n 1 "$log")
+part 'rt ci: every crate, must-fail edit, test and program'
+rt ci 2>&1 | tee "$room/log"
+closing=$(tail -n 1 "$room/log")
 [[ $closing =~ ^[1-9][0-9]*' passed, 0 failed'$ ]]
 
+part 'rt ci refused every must-fail edit'
+# an edit that does not apply or compile is bad, and the gate passes over it: so the line `rt: ok` has to count every edit among the refused
+ok=$(grep '^rt: ok' "$room/log" | tail -n 1)
+refused='^rt: ok; handles allowed: [^;]*; must-fail edits: ([0-9]+) refused(, [0-9]+ of them only by a limit)?(, 0 bad)?; '
+[[ $ok =~ $refused ]]
+edits=$(find crates -path '*/must-fail/*.edit' | wc -l)
+printf '%s of %s\n' "${BASH_REMATCH[1]}" "$edits"
+[ "${BASH_REMATCH[1]}" -eq "$edits" ]
+
 part 'the static library, of the crates that are proved'
-rt staticlib capi
+(cd crates/capi && rt lib)
 
 part 'the C example'
-cc -std=c99 -Wall -Wextra -Werror -pedantic -o target/example interface/example.c target/staticlib/libcapi.a
-target/example
+cc -std=c99 -Wall -Wextra -Werror -pedantic -o "$room/example" interface/example.c crates/capi/out/libcapi.a
+"$room/example"
 
 part 'the Rust wrapper'
 (cd interface/rust && cargo test --quiet --offline)
@@ -65,11 +73,5 @@ python3 tools/trust.py --check
 
 part 'the modules that open definitions'
 python3 tools/open.py --check
-
-part 'the written proofs'
-python3 tools/prove.py --check
-
-part 'the layout'
-rt fmt --check
 
 printf '%s\n' "$closing"

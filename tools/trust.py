@@ -18,7 +18,7 @@ from contracts import listed, path_of, read
 PAGE = 'docs/TRUST.md'
 FROM, TO = '<!-- tools/trust.py writes from here -->\n', '<!-- tools/trust.py writes up to here -->\n'
 THEOREMS = ('run/proofs/Isolated', 'line/proofs/RoundTrip', 'isa/proofs/OldTimers')
-KIT = ('Prim.', 'mathlib.', 'lib.')
+KIT = ('Rattle.std.', 'Prim.', 'mathlib.', 'lib.', 'native.')
 HEAD = re.compile(r' *(?:(?:unfoldable |abbrev )?(?:pub )?([^\s:()]+) :|(?:pub )?(record|data) (\S+))(?=\s)')
 
 # the reading order: parts, and their files; a crate alone stands for its structs and enums
@@ -63,21 +63,24 @@ class File:
         self.module = base.split('.')[0]
         self.label = self.crate if self.code else f'{self.crate}/{self.module}' if folder == 'specs' else f'{self.crate}/{folder}/{self.module}'
         self.own, self.imported, self.aliases, self.types = {}, {}, {}, {}
-        for line in re.findall(r'^ *((?:ghost |pub )*use .*)', read(path), flags=re.M):
-            self.take(line)
+        # an import of the code can take several lines, and ends in a semicolon
+        for line in re.findall(r'^ *((?:ghost |pub )*use [^;]*;)' if self.code else r'^ *((?:pub )?use .*)', read(path), flags=re.M):
+            self.take(' '.join(line.split()))
         (read_code if self.code else read_definitions)(self)
 
     def take(self, line):
         """An import: of names, of a module under another name, or of a name of the code."""
         names, alias = re.fullmatch(r'(?:ghost )?use ([^\s{]+)\.\{(.*)\};?', line), re.fullmatch(r'(?:ghost )?use (\S+) as ([^\s;]+);?', line)
-        item = re.fullmatch(r'use (\w+)::(?:\w+::)*(\w+);', line)
+        items = re.fullmatch(r'(?:pub )?use (\w+)((?:::\w+)*)(?:::\{([^{}]*)\})?;', line)
         for name in names.group(2).split(', ') if names else []:
             name, _, other = name.partition(' as ')
-            self.imported |= {piece: (names.group(1), name) for piece in (other or name).split('_') + [other or name] if piece}
+            self.imported |= {piece: (names.group(1), name) for piece in (other or name).split('◌') + [other or name] if piece}
         if alias:
             self.aliases[alias.group(2)] = alias.group(1)
-        elif item:
-            self.types[item.group(2)] = self.crate if item.group(1) == 'crate' else item.group(1)
+        elif items:
+            crate, path, several = items.groups()
+            named = re.split(r'[,\s]+', several.strip()) if several else path.split('::')[-1:]
+            self.types |= {name: self.crate if crate == 'crate' else crate for name in named if name}
         elif not names:
             sys.exit(f'{self.path}: `{line}` is not understood')
 
@@ -129,7 +132,7 @@ def read_code(file):
             continue
         (kind, name), start = found.groups(), text[:found.start()].count('\n')
         text = text[found.start():].split('\n{')[0]
-        head, *clauses = re.split(r'\b(?:requires|ensures) \{', text)
+        head, *clauses = re.split(r'\b(?:requires|ensures)(?: \w+)? \{', text)
         variants = re.findall(r'^ +(\w+)(?=[(,])', head, flags=re.M) if kind == 'enum' else []
         types = [word for word in re.findall(r'\b[A-Z]\w*', head.replace('"C"', '')) if word not in [name] + variants]
         path = name if kind in ('struct', 'enum') else path_of(file.crate, file.module, name)
@@ -159,19 +162,27 @@ class Reach:
     def cites(self, made):
         """The definitions that a definition cites, each once, in the order of its text."""
         try:
-            found = [self.code[made.file.types.get(word, made.file.crate), word] for word in made.types] + [self.meaning(made.file, word) for word in made.words]
+            found = [self.type_of(made.file, word) for word in made.types] + [self.meaning(made.file, word) for word in made.words]
         except KeyError as error:
             sys.exit(f'{made}: {error} is not found')
         return [other for other in dict.fromkeys(found) if other and other is not made]
+
+    def type_of(self, file, word):
+        """The struct or enum that a type of the code stands for; None where it is of the kit."""
+        crate = file.types.get(word, file.crate)
+        if crate == 'std':
+            self.kit.setdefault(crate, set()).add(word)
+            return None
+        return self.code[crate, word]
 
     def meaning(self, file, word):
         """The definition that a word of a file stands for; None where it is one of the language, of the kit, or bound."""
         head, _, inner = word.partition('.')
         if head in file.aliases and not file.aliases[head].endswith('.Reads'):
-            return self.at(file.aliases[head], inner)
+            return self.at(file.aliases[head], inner.partition('.')[0])
         if head in file.imported:
             return self.at(*file.imported[head])
-        if word.startswith('Rattle·'):
+        if word.startswith('Rattle.'):
             raise KeyError(word)
         return None if file.code else file.own.get(head)
 
@@ -180,9 +191,9 @@ class Reach:
         if module.startswith(KIT):
             self.kit.setdefault(module, set()).add(name)
             return None
-        crate, inside = (re.findall(r'^Rattle·(\w+)(?:·specs)?\.specs\.(.*)', module) or [('', module)])[0]
+        crate, inside = (re.findall(r'^Rattle\.(\w+)\.specs\.(.*)', module) or [('', module)])[0]
         if inside.startswith('declared.'):
-            return self.code[crate, inside.removesuffix('.the-variants').split('.')[-1]]
+            return self.code[crate, inside.removesuffix('.TheVariants').split('.')[-1]]
         return self.files[f'{crate}/{inside}'].own[name]
 
 

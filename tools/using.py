@@ -1,7 +1,7 @@
 #!/usr/bin/env python3
 """Repeats docs/USING.md: runs each of its commands and compares what they print; compares its numbers with the header's and the wrapper's.
 
-Run it in the repository's root after `rt ci` and `rt staticlib capi`, so that target/ has the programs and the library. It prints the first
+Run it in the repository's root after `rt ci`, and `rt lib` in crates/capi, so that the programs and the library are there. It prints the first
 difference, and ends with status 1 if there is one.
 
 - A fenced block that has a path after its language, as ```c sum.c, is a file. It is an excerpt where the path starts as one of EXCERPTS does, here and in
@@ -20,8 +20,8 @@ import sys
 import tempfile
 
 PAGE, CHANGING = 'docs/USING.md', 'docs/CHANGING.md'
-LINKED = ('examples', 'interface', 'simulator', 'target')
-EXCERPTS = ('answers/', 'crates/', 'interface/')
+LINKED = ('crates', 'examples', 'interface', 'simulator')
+EXCERPTS = ('crates/', 'interface/')
 SECONDS = 300
 
 
