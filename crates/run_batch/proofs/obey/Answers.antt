@@ -71,4 +71,4 @@ pub loop-t-smaller : goal.loop-t-smaller
 loop-t-smaller c = omega (arith, c.loop-t.invariant.4)
 
 pub loop-t-preserved : goal.loop-t-preserved
-loop-t-preserved c = let l = c.loop-t in let y = c.if-not-retired.false in let z = c.instruct-retired.ensures.0.1 in let d = z.choice-kept y in (c.instruct-retired.auto.memory ∙ l.invariant.0, c.instruct-retired.auto.pages ∙ l.invariant.1, c.instruct-retired.auto.ports ∙ l.invariant.2, omega (arith, l.invariant.3), c.if-end-deferred.false, l.invariant.5, record { key-is = l.invariant.6.key-is ∙ sym d.key-kept; group-is = l.invariant.6.group-is ∙ sym d.group-kept; group-small = l.invariant.6.group-small }, d.hold-kept ∙ l.invariant.7, λ h. rw (chosen-settled _ _ d) (l.invariant.8 c.if-end-deferred.false), rw c.instruct-retired.ensures.1 (bounded-step c.args.durations.now l.deferred l.tenths l.t (view l.t l.memory l.pages) c.requires.5 l.invariant.9), λ s q. segment-on mil1750 c.args.durations.now s c.args.from c.args.spent l.deferred l.tenths c.args.most l.invariant.3 (omega (arith, l.invariant.4, l.invariant.5)) l.invariant.9 q _ _ c.args.regs.now c.args.memory.now c.args.pages.now c.args.ports.now l.regs l.memory l.pages l.ports (l.invariant.10 s q) c.instruct-retired.result c.instruct-retired.ensures.0.1 _ _ _ _ (c.instruct-retired.ensures.0.0 (with_clock s (after_ticks l.deferred l.tenths s.clock))) _ c.instruct-retired.ensures.1 c.requires.5 (z.all_done y) (d.hold-kept ∙ l.invariant.7) (rw (chosen-settled _ _ d) (l.invariant.8 c.if-end-deferred.false)) (omega (arith, c.if-end-deferred.false, l.invariant.5)))
+loop-t-preserved c = let l = c.loop-t in let y = not-false c.instruct-retired.result.settled c.if-not-retired.false in let z = c.instruct-retired.ensures.0.1 in let d = z.choice-kept y in (c.instruct-retired.auto.memory ∙ l.invariant.0, c.instruct-retired.auto.pages ∙ l.invariant.1, c.instruct-retired.auto.ports ∙ l.invariant.2, omega (arith, l.invariant.3), c.if-end-deferred.false, l.invariant.5, record { key-is = l.invariant.6.key-is ∙ sym d.key-kept; group-is = l.invariant.6.group-is ∙ sym d.group-kept; group-small = l.invariant.6.group-small }, d.hold-kept ∙ l.invariant.7, λ h. rw (chosen-settled _ _ d) (l.invariant.8 c.if-end-deferred.false), rw c.instruct-retired.ensures.1 (bounded-step c.args.durations.now l.deferred l.tenths l.t (view l.t l.memory l.pages) c.requires.5 l.invariant.9), λ s q. segment-on mil1750 c.args.durations.now s c.args.from c.args.spent l.deferred l.tenths c.args.most l.invariant.3 (omega (arith, l.invariant.4, l.invariant.5)) l.invariant.9 q _ _ c.args.regs.now c.args.memory.now c.args.pages.now c.args.ports.now l.regs l.memory l.pages l.ports (l.invariant.10 s q) c.instruct-retired.result c.instruct-retired.ensures.0.1 _ _ _ _ (c.instruct-retired.ensures.0.0 (with_clock s (after_ticks l.deferred l.tenths s.clock))) _ c.instruct-retired.ensures.1 c.requires.5 (z.all_done y) (d.hold-kept ∙ l.invariant.7) (rw (chosen-settled _ _ d) (l.invariant.8 c.if-end-deferred.false)) (omega (arith, c.if-end-deferred.false, l.invariant.5)))
