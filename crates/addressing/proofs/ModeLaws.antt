@@ -1,5 +1,5 @@
 -- The addressing mode of a form in a range of form numbers, and what it derives. Assumes nothing.
-use Rattle.std.proofs.Common.{◌≡◌, ℕ, ◌+◌, ◌*◌, ◌/◌, ◌%◌, ◌<◌, ◌≤◌, ◌⊎◌, List, [], ◌∷◌, sym, refl, ⊎_elim, eq-or-lt_of_le, arith, rules}
+use Rattle.std.proofs.Common.{◌≡◌, ℕ, ◌+◌, ◌*◌, ◌%◌, ◌<◌, ◌≤◌, ◌⊎◌, List, [], ◌∷◌, sym, refl, ⊎_elim, eq-or-lt_of_le, arith, rules}
 use Rattle.choice.proofs.SelectLaws.{otherwise}
 use Rattle.decode.specs.Forms.{mode_of}
 use Rattle.isa.specs.Fields.{field_b, indexed}

@@ -1,13 +1,13 @@
 -- Two wrong answers of each contract that other crates call, each beside the right one, which the checker computes. Assumes nothing.
 use Rattle.std.proofs.Common.{ℕ, ◌+◌, ◌-◌, T, List, [], ◌∷◌, take}
 use Rattle.choice.specs.Table.{table_of}
-use Rattle.choice.proofs.Rows.{Row, one, some, hold, flag}
+use Rattle.choice.proofs.Rows.{Row, one, some, hold}
 use Rattle.word.specs.Pair.{pair}
 use Rattle.page.specs.Spans.{wrapped}
 use Rattle.machine.specs.declared.Instruction.{Instruction}
 use Rattle.isa.specs.Fields.{field_a, field_b, register, with_register, registers_from}
 use Rattle.isa.specs.Words.{register_pair}
-use Rattle.isa.specs.Addressing.{derived_from, in_memory, operand_word, operand, double_operand, accumulator}
+use Rattle.isa.specs.Addressing.{derived_from, operand_word, operand, double_operand, accumulator}
 use Rattle.isa.proofs.OpenInstructions.{instructions}
 
 -- R0 has 1000, R1 has 1001, and so on

@@ -1,5 +1,6 @@
 // The operations on blocks whose words lie in one page, at once. Callers have 512 page registers.
 #![tactic(auto)]
+
 mod extents;
 pub mod here;
 

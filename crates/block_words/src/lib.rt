@@ -1,5 +1,6 @@
 // The operations on several registers or words at once (5.40, 5.44, 5.47, 5.50, 5.54, 5.90). Callers have 512 page registers.
 #![tactic(auto)]
+
 ghost use Rattle.std.specs.Prelude.{◌≡◌, true, ◌≤◌, length};
 ghost use Rattle.decode.specs.Forms.{operation_of};
 ghost use Rattle.machine.specs.State.{joined, key_of, group_of};

@@ -1,5 +1,5 @@
 -- The clock after deferred ticks is reached tick by tick. Assumes nothing.
-use Rattle.std.proofs.Common.{◌≡◌, ℕ, zero, suc, ◌+◌, ◌*◌, ◌/◌, ◌%◌, ◌<◌, ◌≤◌, Bool, true, false, cond, ◌&&◌, eqb, leb, sym, refl, ap, ◌∙◌, ap₂, arith, ne_eqb}
+use Rattle.std.proofs.Common.{◌≡◌, ℕ, zero, suc, ◌+◌, ◌*◌, ◌/◌, ◌%◌, ◌<◌, ◌≤◌, Bool, true, false, sym, refl, ap, ◌∙◌, ap₂, arith, ne_eqb}
 use native.Mathlib.Nat.{mod-add-div', add-mul-div_right, mod-add-mod}
 use lib.Bits.{bit_or, or_zero_r}
 use borrow.Author.Tests.{lt-leb}

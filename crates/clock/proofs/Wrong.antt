@@ -1,5 +1,5 @@
 -- Two wrong answers of each contract that other crates call, beside the right one, which the checker computes. Assumes nothing.
-use Rattle.std.proofs.Common.{ℕ, true, false, T, List, [], ◌∷◌, get_or, set, replicate}
+use Rattle.std.proofs.Common.{ℕ, true, T, List, [], ◌∷◌, get_or, set, replicate}
 use lib.Bits.{bit_or}
 use Rattle.choice.proofs.Rows.{Row, one, some, hold, flag}
 use Rattle.page.specs.declared.Got.TheVariants.{Word}

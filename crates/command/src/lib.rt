@@ -1,5 +1,6 @@
 // XIO (5.1), the privileged operation that carries out a command. The timer commands, which see and set the clock, are apart.
 #![tactic(auto)]
+
 ghost use Rattle.std.specs.Prelude.{◌≡◌, false, length};
 ghost use Rattle.machine.specs.declared.State.{State};
 ghost use Rattle.machine.specs.State.{joined, with_processor};

@@ -1,5 +1,6 @@
 // The parts of the core that a privileged operation sets.
 #![tactic(auto)]
+
 ghost use Rattle.std.specs.Prelude.{◌≡◌, true, ◌<◌};
 ghost use Rattle.machine.specs.State.{with_sw, with_mk, with_pi, with_ft, with_mfs, with_enabled, with_hold};
 ghost use Rattle.isa.specs.Commands.{resumed, pending_reset, status_loaded};

@@ -1,5 +1,6 @@
 // What an operation on at most three words does: its scalars, and how its registers are filled.
 #![tactic(auto)]
+
 ghost use Rattle.std.specs.Prelude.{◌≡◌};
 ghost use Rattle.machine.specs.State.{cs_of};
 ghost use Rattle.machine.specs.Machine.{next_of};

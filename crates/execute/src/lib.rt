@@ -1,5 +1,6 @@
 // A user's operation on at most three words: what it does, and the words that it stores. Callers have 512 page registers: a run asks for them.
 #![tactic(auto)]
+
 ghost use Rattle.std.specs.Prelude.{◌≡◌, ◌≤◌, length};
 ghost use Rattle.decode.specs.Forms.{operation_of};
 ghost use Rattle.machine.specs.State.{joined};

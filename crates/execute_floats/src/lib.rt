@@ -1,5 +1,6 @@
 // Floating point operations (5.60 to 5.95): what each does, by its paragraph.
 #![tactic(auto)]
+
 ghost use Rattle.std.specs.Prelude.{◌≡◌};
 ghost use Rattle.decode.specs.Forms.{operation_of};
 ghost use Rattle.isa.specs.Floats.{float_operation};

@@ -1,5 +1,6 @@
 // Integer arithmetic, logic and comparison (5.55 to 5.93 without the floats): what each operation does, by its paragraph.
 #![tactic(auto)]
+
 ghost use Rattle.std.specs.Prelude.{◌≡◌};
 ghost use Rattle.decode.specs.Forms.{operation_of};
 ghost use Rattle.isa.specs.Integers.{integer_operation, logical_operation};

@@ -1,6 +1,7 @@
 // The most frequent operations, each by its fast path: one or two words into the accumulator, one or two stored, on by CS. What they
 // come to is what the definitions of all operations say; the path is shorter. Callers have 512 page registers; key and group are those of SW.
 #![tactic(auto)]
+
 ghost use Rattle.std.specs.Prelude.{◌≡◌, ◌<◌, ◌≤◌, length};
 ghost use Rattle.machine.specs.State.{Keyed, joined};
 ghost use Rattle.form_table.specs.FormNumbers.{number_of};

@@ -1,6 +1,7 @@
 // The most frequent operations that load the accumulator, carried out at once: one word (L A S OR AND) or two (DL DA DS). What they come to is what
 // the definitions of all operations say. Callers have 512 page registers; key and group are those of SW.
 #![tactic(auto)]
+
 pub mod double;
 pub mod finish;
 pub mod operand;

@@ -1,5 +1,6 @@
 // Fixed point multiply and divide at 16 bits (single precision) and 32 bits (double precision), each with its condition status.
 #![tactic(auto)]
+
 pub mod parts;
 pub mod products;
 pub mod quotients;

@@ -1,6 +1,7 @@
 // What floating point multiply and divide share, on the 40 bits of a mantissa in a u64: sign and magnitude, and the normalised, truncated result.
 // A mantissa is below 2^40 in all callers, as they have it from 40 bits or from `wider`; a width is 24 or 40.
 #![tactic(auto)]
+
 ghost use Rattle.std.specs.Prelude.{◌≡◌, ◌+◌, ◌-◌, ◌*◌, ◌/◌, ◌^◌, ◌≤◌, ◌<◌, nat_abs};
 ghost use Rattle.twos_complement.specs.Whole.{signed, with_sign};
 ghost use Rattle.float.specs.Float.{overflowed, given};

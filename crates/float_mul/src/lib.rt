@@ -1,5 +1,6 @@
 // Floating point multiply, on the 24 or 40 bits of a mantissa in a u64 and the standard's exponent plus 128: callers have both from the words of a float.
 #![tactic(auto)]
+
 ghost use Rattle.std.specs.Prelude.{◌≡◌, ◌-◌, ◌*◌, ◌/◌, ◌^◌, ◌≤◌, ◌<◌};
 ghost use Rattle.twos_complement.specs.Whole.{signed};
 ghost use Rattle.float.specs.Float.{given};

@@ -1,5 +1,6 @@
 // The form number of an instruction by its first word, from one table, and what it tells: the words that an instruction not on blocks reads and writes.
 #![tactic(auto)]
+
 ghost use Rattle.std.specs.Prelude.{◌≡◌, List, ℕ, ◌≤◌, ◌<◌, ◌/◌, ◌%◌};
 ghost use Rattle.decode.specs.Forms.{operation_of};
 ghost use Rattle.decode.specs.Decode.{form_claimed, decode_of};

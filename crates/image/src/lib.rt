@@ -1,5 +1,6 @@
 // Images (Scope, "Image"): their table, and the questions to them.
 #![tactic(auto)]
+
 pub mod questions;
 pub mod table;
 

@@ -1,6 +1,7 @@
 // The entry of an interrupt, and of the executive by BEX, once its words are read (Scope, "Entry of n"). Callers have 512 page registers,
 // and an interrupt's number of four bits.
 #![tactic(auto)]
+
 ghost use Rattle.std.specs.Prelude.{◌≡◌, ◌<◌, length};
 ghost use Rattle.machine.specs.declared.Core.{Core};
 ghost use Rattle.machine.specs.Entries.{linked, link_stored, stored_after, machine_error, arrived};

@@ -2,25 +2,19 @@
 -- that run neither are those of the old rule. Assumes nothing.
 use Prim.Native.Nat.{ℕ, zero, suc, ◌+◌, ◌≤◌}
 use mathlib.Core.Logic.{◌≢◌}
-use mathlib.Core.Path.{◌≡◌, refl, sym, ap, subst, ◌∙◌}
+use mathlib.Core.Path.{◌≡◌, refl, sym, ap, ◌∙◌}
 use mathlib.Core.Bool.{Bool, true, false, cond, false≢true}
-use mathlib.Core.List.{List, [], ◌∷◌, map}
+use mathlib.Core.List.{List, [], ◌∷◌}
 use native.Mathlib.Omega.{arith}
 use lib.Dec.{eqb, leb}
 use borrow.Author.Tests.{eqb-true, eqb-false}
 use Rattle.choice.specs.Select.{select, up_to}
-use Rattle.choice.specs.Table.{among}
 use Rattle.decode.specs.Forms.{operation_of}
 use Rattle.machine.specs.declared.State.{State}
-use Rattle.machine.specs.declared.Clock.{Clock}
 use Rattle.machine.specs.declared.Instruction.{Instruction}
-use Rattle.machine.specs.declared.Prepared.TheVariants.{Ready}
-use Rattle.machine.specs.declared.Class.TheVariants.{Supervisor}
-use Rattle.machine.specs.State.{processor, with_core, with_ta, with_ta_on, with_tb_on, with_rem_a}
+use Rattle.machine.specs.State.{with_core, with_ta, with_ta_on, with_tb_on, with_rem_a}
 use Rattle.machine.specs.Faults.{ft_alone}
-use Rattle.machine.specs.Machine.{Machine, Supervised, done, refused}
-use Rattle.machine.specs.Instructions.{view, prepared}
-use Rattle.machine.specs.Entries.{chosen}
+use Rattle.machine.specs.Machine.{Machine, refused}
 use Rattle.machine.specs.Step.{begun_from, step}
 use Rattle.machine.specs.Runs.{steps}
 use Rattle.machine.specs.OldTimers.{hundreds, Steady, Left, performed, old_steps, LeaveB}
@@ -28,7 +22,7 @@ use Rattle.machine.proofs.InstructionLaws.{OnDone}
 use Rattle.machine.proofs.OldTimerLaws.{Leaving, left-same, step_left, steady-next, steps-old}
 use Rattle.bits.specs.Bits.{weight}
 use Rattle.isa.specs.Commands.{timer_rules, timer_command, is_timer, becomes, resumed, with_ra, faults_read, core_rules, core_command, state_command, ranges, commanded, supervised_by}
-use Rattle.isa.specs.Mil1750.{class_of, mil1750}
+use Rattle.isa.specs.Mil1750.{mil1750}
 use Rattle.isa.specs.OldTimers.{of_timer_b, KeepsB, KeepB}
 
 -- ---- what holds of each rule of a list, and of the default, holds of the one that is chosen

@@ -2,10 +2,9 @@
 use Prim.Native.Nat.{ℕ, ◌<◌}
 use mathlib.Core.Path.{◌≡◌}
 use mathlib.Core.Bool.{Bool, true, false}
-use mathlib.Core.List.{List}
 use native.Mathlib.Omega.{arith}
 use lib.Dec.{ltb}
-use lib.ListN.{get_or, replicate, get_or-replicate}
+use lib.ListN.{replicate, get_or-replicate}
 use Rattle.page.specs.declared.Got.{Got}
 use Rattle.page.specs.declared.Got.TheVariants.{Word, Missed}
 use Rattle.machine.specs.declared.Core.{Core}

@@ -2,7 +2,7 @@
 -- timer B are those of the old rule. For any instruction set. Assumes nothing.
 use Prim.Native.Nat.{ℕ, zero, suc, ◌+◌, ◌*◌, ◌/◌, ◌%◌, ◌≤◌, ◌<◌}
 use mathlib.Core.Path.{◌≡◌, refl, sym, ap, ap₂, subst, ◌∙◌}
-use mathlib.Core.Bool.{Bool, true, false, cond, ◌&&◌}
+use mathlib.Core.Bool.{Bool, true, false, cond}
 use mathlib.Core.List.{List}
 use mathlib.Core.Logic.{◌≢◌}
 use native.Mathlib.Omega.{arith}
@@ -25,7 +25,7 @@ use Rattle.machine.specs.State.{with_pi, reset_state, processor}
 use Rattle.machine.specs.Machine.{Machine, machine, Isa, System, Supervised, done, refused}
 use Rattle.machine.specs.Instructions.{Action, enter, call, fail, affect, govern, View, view, prepared, supervised, operated, accessed, carried, instructed}
 use Rattle.machine.specs.Entries.{chosen}
-use Rattle.machine.specs.Step.{begun_from, entered, perform, begun, action, counted, rises, remaining, risen, passing, elapsed, expired, ticked, tick, duration, step}
+use Rattle.machine.specs.Step.{begun_from, entered, perform, begun, action, counted, rises, remaining, risen, passing, elapsed, expired, ticked, tick, step}
 use Rattle.machine.specs.Runs.{steps}
 use Rattle.machine.specs.OldTimers.{rises_b, old_elapsed, old_ticked, hundreds, Steady, performed, old_step, old_steps, Left, LeaveB}
 use Rattle.machine.proofs.InstructionLaws.{OnDone, Governed}

@@ -1,5 +1,6 @@
 // Spans: those of up to three words, and the words that an operation on blocks reads and writes.
 #![tactic(auto)]
+
 ghost use Rattle.std.specs.Prelude.{◌≡◌, ◌≤◌, ◌/◌, ◌%◌};
 ghost use Rattle.decode.specs.Forms.{operation_of};
 ghost use Rattle.machine.specs.Machine.{span_from};

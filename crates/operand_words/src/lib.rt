@@ -1,6 +1,7 @@
 // The words of a user's operation on at most three words: those read, checked and gathered at once, and those stored. Callers have 512 page registers:
 // a run asks for them.
 #![tactic(auto)]
+
 ghost use Rattle.std.specs.Prelude.{◌≡◌, ◌<◌, ◌≤◌, length};
 ghost use Rattle.page.specs.Spans.{checked, words_of, written};
 ghost use Rattle.machine.specs.State.{key_of, group_of};

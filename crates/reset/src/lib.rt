@@ -1,5 +1,6 @@
 // Reset (Scope, "The machine").
 #![tactic(auto)]
+
 ghost use Rattle.std.specs.Prelude.{◌≡◌, ◌<◌, ◌≤◌, length};
 ghost use Rattle.machine.specs.State.{reset_state};
 ghost use Rattle.machine.specs.Machine.{Became};

@@ -1,5 +1,6 @@
 // The fields of the status word (4.4.2.2), IC, and what every operation changes of the core.
 #![tactic(auto)]
+
 ghost use Rattle.std.specs.Prelude.{◌≡◌, ◌+◌, ◌<◌};
 ghost use Rattle.page.specs.Spans.{wrapped};
 ghost use Rattle.machine.specs.State.{key_of, group_of, with_cs, updated};

@@ -4,7 +4,6 @@ use Rattle.machine.specs.State.{joined}
 use Rattle.machine.specs.Step.{stored}
 use Rattle.page.proofs.EachLaws.{words-length}
 use Rattle.page.proofs.SpanLaws.{words-read}
-use borrow.Author.Rules.{rules}
 use lib.ListN.{length}
 use mathlib.Core.Path.{refl, ap, ◌∙◌}
 use Rattle.block_words.proofs.block.Goals as goal

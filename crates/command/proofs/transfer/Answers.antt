@@ -1,7 +1,6 @@
 -- The answers to the goals of `command::transfer`. Assumes nothing.
 use Rattle.command.proofs.CommandLaws.{same}
 use Rattle.command.specs.Transfer.{governed, Kept}
-use borrow.Author.Rules.{rules}
 use Rattle.command.proofs.transfer.Goals as goal
 
 pub output-requires : goal.output-requires

@@ -1,7 +1,6 @@
 -- The answers to the goals of `command_core::reset_pending`. Assumes nothing.
 use Rattle.isa.specs.Commands.{pending_reset}
 use Rattle.machine.specs.State.{with_pi, with_ft, with_faults}
-use borrow.Author.Rules.{rules}
 use borrow.Author.Tests.{eq-eqb, ne_eqb}
 use Rattle.command_core.proofs.reset_pending.Goals as goal
 

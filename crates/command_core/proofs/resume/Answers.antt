@@ -1,7 +1,6 @@
 -- The answers to the goals of `command_core::resume`. Assumes nothing.
 use Rattle.isa.specs.Commands.{resumed}
 use Rattle.machine.specs.State.{with_ic}
-use borrow.Author.Rules.{rules}
 use mathlib.Core.Path.{refl}
 use Rattle.command_core.proofs.resume.Goals as goal
 

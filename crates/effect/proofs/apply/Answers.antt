@@ -2,7 +2,7 @@
 use Rattle.effect.proofs.WorkLaws.{all_three}
 use Rattle.effect.specs.Work.{filled}
 use Rattle.isa.specs.Fields.{with_registers, with_register}
-use Rattle.std.proofs.Common.{refl, rules}
+use Rattle.std.proofs.Common.{refl}
 use Rattle.effect.proofs.apply.Goals as goal
 
 pub returns-then-e-eq0 : goal.returns-then-e-eq0

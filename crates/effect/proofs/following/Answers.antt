@@ -1,7 +1,6 @@
 -- The answers to the goals of `effect::following`. Assumes nothing.
 use Rattle.machine.specs.Machine.{next_of}
 use Rattle.page.specs.Spans.{wrapped}
-use Rattle.std.proofs.Common.{rules}
 use Rattle.effect.proofs.following.Goals as goal
 
 pub returns : goal.returns

@@ -2,7 +2,6 @@
 use Rattle.decode.specs.Forms.{operation_of}
 use Rattle.effect.specs.Work.{context}
 use Rattle.execute.proofs.OrdinaryLaws.{in-range, past_all, jump-left, loads-left, stores-left, integers-left, logic-left}
-use borrow.Author.Rules.{rules}
 use mathlib.Core.Path.{refl, ◌∙◌}
 use native.Mathlib.Omega.{arith}
 use Rattle.execute.proofs.ordinary.Goals as goal

@@ -2,7 +2,6 @@
 use Rattle.effect.specs.Work.{worked}
 use Rattle.isa.specs.Mil1750.{context_of}
 use Rattle.machine.specs.Step.{affected, stored}
-use borrow.Author.Rules.{rules}
 use mathlib.Core.Path.{refl}
 use Rattle.execute.proofs.work.Goals as goal
 

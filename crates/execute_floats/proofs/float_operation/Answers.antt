@@ -6,7 +6,6 @@ use Rattle.float_convert.specs.Convert.{negated_of, absolute_of}
 use Rattle.float_div.specs.Divide.{quotient_of}
 use Rattle.float_mul.specs.Multiply.{product_of}
 use Rattle.isa.specs.Floats.{float_operation}
-use borrow.Author.Rules.{rules}
 use borrow.Author.Tests.{ne_eqb}
 use mathlib.Core.Path.{◌∙◌}
 use Rattle.execute_floats.proofs.float_operation.Goals as goal

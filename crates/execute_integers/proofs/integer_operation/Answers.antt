@@ -1,6 +1,5 @@
 -- The answers to the goals of `execute_integers::integer_operation`. Assumes nothing.
 use Rattle.isa.specs.Integers.{integer_operation}
-use borrow.Author.Rules.{rules}
 use borrow.Author.Tests.{ne_eqb}
 use Rattle.execute_integers.proofs.integer_operation.Goals as goal
 

@@ -1,6 +1,5 @@
 -- The answers to the goals of `execute_integers::logical_operation`. Assumes nothing.
 use Rattle.isa.specs.Integers.{logical_operation}
-use borrow.Author.Rules.{rules}
 use borrow.Author.Tests.{ne_eqb}
 use Rattle.execute_integers.proofs.logical_operation.Goals as goal
 

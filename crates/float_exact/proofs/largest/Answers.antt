@@ -1,5 +1,4 @@
 -- The answers to the goals of `float_exact::largest`. Assumes nothing.
-use borrow.Author.Rules.{rules}
 use Rattle.twos_complement.specs.Whole.{wrap, with_sign}
 use Rattle.float.specs.Float.{given, overflowed}
 use Rattle.float_exact.proofs.largest.Goals as goal

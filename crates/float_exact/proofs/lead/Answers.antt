@@ -1,5 +1,4 @@
 -- The answers to the goals of `float_exact::lead`. Assumes nothing.
-use borrow.Author.Rules.{rules}
 use Prim.Native.Nat.{ℕ, ◌^◌, ◌<◌}
 use mathlib.Core.Path.{◌≡◌}
 use lib.IntN.{nat_abs}

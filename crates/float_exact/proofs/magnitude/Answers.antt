@@ -1,5 +1,4 @@
 -- The answers to the goals of `float_exact::magnitude`. Assumes nothing.
-use borrow.Author.Rules.{rules}
 use lib.Dec.{lit≤}
 use Rattle.twos_complement.proofs.Signs.{parts_low, parts-high}
 use Rattle.float_exact.proofs.magnitude.Goals as goal

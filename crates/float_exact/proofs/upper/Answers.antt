@@ -1,5 +1,4 @@
 -- The answers to the goals of `float_exact::upper`. Assumes nothing.
-use borrow.Author.Rules.{rules}
 use mathlib.Core.Path.{refl}
 use Rattle.float_exact.specs.Steps.{upper}
 use Rattle.float_exact.proofs.upper.Goals as goal

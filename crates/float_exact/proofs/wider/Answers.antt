@@ -1,5 +1,4 @@
 -- The answers to the goals of `float_exact::wider`. Assumes nothing.
-use borrow.Author.Rules.{rules}
 use lib.Dec.{lit≤}
 use Rattle.float_exact.proofs.StepLaws.{wide}
 use Rattle.float_exact.proofs.wider.Goals as goal

@@ -1,5 +1,4 @@
 -- The answers to the goals of `float_mul::multiply`. Assumes nothing.
-use borrow.Author.Rules.{rules}
 use Prim.Native.Nat.{◌-◌}
 use native.Mathlib.Omega.{arith}
 use Rattle.float_exact.proofs.NarrowLaws.{narrow}

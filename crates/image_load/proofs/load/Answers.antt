@@ -1,7 +1,6 @@
 -- The answers to the goals of `image_load::load`. Assumes nothing.
 use Rattle.image.proofs.SoundLaws.{ready}
 use Rattle.image_load.proofs.LoadLaws.{refused, bare, accepted}
-use borrow.Author.Rules.{rules}
 use Rattle.image_load.proofs.load.Goals as goal
 
 pub returns-then-number-ne0 : goal.returns-then-number-ne0

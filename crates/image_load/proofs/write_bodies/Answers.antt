@@ -1,14 +1,9 @@
 -- The answers to the goals of `image_load::write_bodies`. Assumes nothing.
-use Prim.Native.Nat.{ℕ, ◌+◌}
 use Rattle.image.proofs.SoundLaws.{entries-within, entries-rest, table-sound}
-use Rattle.image.specs.Image.{count_of, words_before, table_end, body_at, number_of, entries_answer, with_bodies}
+use Rattle.image.specs.Image.{words_before, table_end, body_at, with_bodies}
 use Rattle.image_load.proofs.BodyLaws.{bodies-none, bodies-step, body-next, body-inside, table-inside}
 use Rattle.machine.proofs.MachineLaws.{became-machine, machine-became}
-use Rattle.machine.specs.Machine.{machine}
-use borrow.Author.Rules.{rules}
-use lib.ListN.{length}
-use mathlib.Core.List.{List}
-use mathlib.Core.Path.{◌≡◌, refl, sym, ap, ◌∙◌}
+use mathlib.Core.Path.{refl, sym, ap, ◌∙◌}
 use native.Mathlib.Omega.{arith}
 use Rattle.image_load.proofs.write_bodies.Goals as goal
 

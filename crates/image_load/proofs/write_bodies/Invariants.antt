@@ -1,15 +1,10 @@
 -- What the loops keep, and the measures, of `image_load::write_bodies`. Assumes nothing.
 use Prim.Native.Nat.{ℕ, ◌+◌}
-use Rattle.image.proofs.SoundLaws.{entries-within, entries-rest, table-sound}
-use Rattle.image.specs.Image.{count_of, words_before, table_end, body_at, number_of, entries_answer, with_bodies}
-use Rattle.image_load.proofs.BodyLaws.{bodies-none, bodies-step, body-next, body-inside, table-inside}
-use Rattle.machine.proofs.MachineLaws.{became-machine, machine-became}
+use Rattle.image.specs.Image.{count_of, body_at, number_of, entries_answer, with_bodies}
 use Rattle.machine.specs.Machine.{machine}
-use borrow.Author.Rules.{rules}
 use lib.ListN.{length}
 use mathlib.Core.List.{List}
-use mathlib.Core.Path.{◌≡◌, refl, sym, ap, ◌∙◌}
-use native.Mathlib.Omega.{arith}
+use mathlib.Core.Path.{◌≡◌}
 use Rattle.image_load.proofs.write_bodies.Given as goal
 
 abbrev pub invariant-loop-left : goal.invariant-loop-left

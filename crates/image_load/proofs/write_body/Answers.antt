@@ -1,6 +1,5 @@
 -- The answers to the goals of `image_load::write_body`. Assumes nothing.
 use Rattle.image_load.proofs.BodyLaws.{within-memory, within-pages, within-registers, within-control, to-memory, to-pages, to-registers, to-control}
-use borrow.Author.Rules.{rules}
 use Rattle.image_load.proofs.write_body.Goals as goal
 
 pub write_words-requires : goal.write_words-requires

@@ -1,7 +1,6 @@
 -- The answers to the goals of `image_load::write_control`. Assumes nothing.
 use Rattle.image.specs.Image.{control_of, with_control}
 use Rattle.machine.specs.State.{with_ic, with_sw, with_mk, with_pi, with_faults, with_ft}
-use borrow.Author.Rules.{rules}
 use mathlib.Core.Path.{refl}
 use Rattle.image_load.proofs.write_control.Goals as goal
 

@@ -1,10 +1,7 @@
 -- The answers to the goals of `image_load::write_words`. Assumes nothing.
-use Prim.Native.Nat.{◌+◌, ◌*◌, ◌≤◌}
-use Rattle.image.specs.Image.{words_from}
 use Rattle.image_load.proofs.BodyLaws.{words-none, words_step}
-use lib.ListN.{length, length-set}
-use lib.Seq.{sets}
-use mathlib.Core.Path.{◌≡◌, refl, sym, ◌∙◌}
+use lib.ListN.{length-set}
+use mathlib.Core.Path.{refl, sym, ◌∙◌}
 use native.Mathlib.Omega.{arith}
 use Rattle.image_load.proofs.write_words.Goals as goal
 

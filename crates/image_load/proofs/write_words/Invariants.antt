@@ -1,11 +1,9 @@
 -- What the loops keep, and the measures, of `image_load::write_words`. Assumes nothing.
 use Prim.Native.Nat.{◌+◌, ◌*◌, ◌≤◌}
 use Rattle.image.specs.Image.{words_from}
-use Rattle.image_load.proofs.BodyLaws.{words-none, words_step}
-use lib.ListN.{length, length-set}
+use lib.ListN.{length}
 use lib.Seq.{sets}
-use mathlib.Core.Path.{◌≡◌, refl, sym, ◌∙◌}
-use native.Mathlib.Omega.{arith}
+use mathlib.Core.Path.{◌≡◌}
 use Rattle.image_load.proofs.write_words.Given as goal
 
 abbrev pub invariant-loop-left : goal.invariant-loop-left

@@ -1,7 +1,6 @@
 -- The answers to the goals of `instruction_prepare::derive`. Assumes nothing.
 use Rattle.isa.specs.Mil1750.{mil1750}
 use Rattle.machine.specs.Instructions.{derived}
-use borrow.Author.Rules.{rules}
 use borrow.Author.Tests.{eq-eqb, ne_eqb}
 use Rattle.instruction_prepare.proofs.derive.Goals as goal
 

@@ -2,7 +2,6 @@
 use Rattle.instruction_prepare.proofs.PrepareLaws.{granted-second}
 use Rattle.machine.specs.Instructions.{extended}
 use Rattle.machine.specs.State.{advanced}
-use borrow.Author.Rules.{rules}
 use mathlib.Core.Path.{refl}
 use Rattle.instruction_prepare.proofs.extend.Goals as goal
 

@@ -1,6 +1,5 @@
 -- The answers to the goals of `instruction_prepare::permit`. Assumes nothing.
 use Rattle.machine.specs.Instructions.{permitted}
-use borrow.Author.Rules.{rules}
 use mathlib.Core.Path.{refl}
 use Rattle.instruction_prepare.proofs.permit.Goals as goal
 

@@ -2,7 +2,6 @@
 use Rattle.isa.specs.Mil1750.{mil1750}
 use Rattle.machine.specs.Instructions.{decoded, granted}
 use Rattle.machine.specs.State.{advanced}
-use borrow.Author.Rules.{rules}
 use borrow.Author.Tests.{eq-eqb, ne_eqb}
 use mathlib.Core.Path.{refl}
 use Rattle.instruction_prepare.proofs.prepare.Goals as goal

@@ -1,7 +1,6 @@
 -- The answers to the goals of `instruction_prepare::redirect`. Assumes nothing.
 use Rattle.machine.specs.Instructions.{redirected}
 use Rattle.machine.specs.State.{advanced}
-use borrow.Author.Rules.{rules}
 use mathlib.Core.Path.{refl}
 use Rattle.instruction_prepare.proofs.redirect.Goals as goal
 

@@ -3,7 +3,6 @@ use Prim.Native.Nat.{◌+◌}
 use Rattle.page.proofs.NearLaws.{lookup-next}
 use Rattle.page.proofs.ReachLaws.{located-inside}
 use Rattle.page.specs.Spans.{got_at}
-use borrow.Author.Rules.{rules}
 use borrow.Author.Tests.{eq-eqb, ne_eqb, lt-ltb, le-ltb}
 use lib.ListN.{length}
 use mathlib.Core.Path.{refl, sym}

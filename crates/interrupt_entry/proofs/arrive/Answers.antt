@@ -1,7 +1,7 @@
 -- The answers to the goals of `interrupt_entry::arrive`. Assumes nothing.
 use Rattle.machine.specs.Entries.{arrived}
 use Rattle.machine.specs.State.{with_ic, with_sw, with_mk, with_pi, with_faults, with_enabled}
-use Rattle.std.proofs.Common.{refl, rules}
+use Rattle.std.proofs.Common.{refl}
 use Rattle.interrupt_entry.proofs.arrive.Goals as goal
 
 pub returns : goal.returns

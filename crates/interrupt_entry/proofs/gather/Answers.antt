@@ -1,6 +1,5 @@
 -- The answers to the goals of `interrupt_entry::gather`. Assumes nothing.
 use Rattle.machine.specs.Entries.{stored_after}
-use Rattle.std.proofs.Common.{rules}
 use Rattle.interrupt_entry.proofs.gather.Goals as goal
 
 pub returns-in-Clear : goal.returns-in-Clear

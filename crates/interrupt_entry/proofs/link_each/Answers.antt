@@ -1,6 +1,6 @@
 -- The answers to the goals of `interrupt_entry::link_each`. Assumes nothing.
 use Rattle.machine.specs.Entries.{linked, link_stored, old_words}
-use Rattle.std.proofs.Common.{refl, rules}
+use Rattle.std.proofs.Common.{refl}
 use Rattle.interrupt_entry.proofs.link_each.Goals as goal
 
 pub returns-in-Clear : goal.returns-in-Clear

@@ -1,6 +1,5 @@
 -- The answers to the goals of `operand_spans::all_from`. Assumes nothing.
 use Rattle.isa.specs.Accesses.{all_from}
-use borrow.Author.Rules.{rules}
 use native.Mathlib.Omega.{arith}
 use Rattle.operand_spans.proofs.all_from.Goals as goal
 

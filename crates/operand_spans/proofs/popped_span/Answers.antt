@@ -1,6 +1,5 @@
 -- The answers to the goals of `operand_spans::popped_span`. Assumes nothing.
 use Rattle.isa.specs.Accesses.{popped_span}
-use borrow.Author.Rules.{rules}
 use mathlib.Core.Path.{refl}
 use native.Mathlib.Omega.{arith}
 use Rattle.operand_spans.proofs.popped_span.Goals as goal

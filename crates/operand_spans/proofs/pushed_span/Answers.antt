@@ -2,7 +2,6 @@
 use Prim.Native.Nat.{◌+◌}
 use Rattle.isa.specs.Accesses.{pushed_span}
 use Rattle.page.specs.Spans.{wrapped}
-use borrow.Author.Rules.{rules}
 use mathlib.Core.Path.{◌≡◌, refl}
 use Rattle.operand_spans.proofs.pushed_span.Goals as goal
 

@@ -1,7 +1,6 @@
 -- The answers to the goals of `operand_spans::reads`. Assumes nothing.
 use Rattle.form_table.proofs.NeedsLaws.{block-reads-none}
 use Rattle.isa.specs.Accesses.{reads_of}
-use borrow.Author.Rules.{rules}
 use borrow.Author.Tests.{ne_eqb}
 use mathlib.Core.Path.{◌∙◌}
 use native.Mathlib.Omega.{arith}

@@ -1,7 +1,6 @@
 -- The answers to the goals of `operand_spans::writes`. Assumes nothing.
 use Rattle.form_table.proofs.NeedsLaws.{block-writes-none}
 use Rattle.isa.specs.Accesses.{writes_of}
-use borrow.Author.Rules.{rules}
 use borrow.Author.Tests.{ne_eqb}
 use mathlib.Core.Path.{◌∙◌}
 use native.Mathlib.Omega.{arith}

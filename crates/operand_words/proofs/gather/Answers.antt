@@ -2,7 +2,7 @@
 use Rattle.operand_words.proofs.GatherLaws.{gathered-few, from_first}
 use Rattle.operand_words.specs.Gathers.{with_word}
 use Rattle.page.specs.Spans.{wrapped}
-use Rattle.std.proofs.Common.{length, arith, rules, le-ltb, lt-ltb}
+use Rattle.std.proofs.Common.{length, arith, le-ltb, lt-ltb}
 use Rattle.operand_words.proofs.gather.Goals as goal
 
 pub returns-then-k-eq0 : goal.returns-then-k-eq0

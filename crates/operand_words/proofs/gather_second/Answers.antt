@@ -1,7 +1,7 @@
 -- The answers to the goals of `operand_words::gather_second`. Assumes nothing.
 use Rattle.operand_words.specs.Gathers.{from_second, with_word}
 use Rattle.page.specs.Spans.{wrapped}
-use Rattle.std.proofs.Common.{rules, le-ltb, lt-ltb}
+use Rattle.std.proofs.Common.{le-ltb, lt-ltb}
 use Rattle.operand_words.proofs.gather_second.Goals as goal
 
 pub returns-then-k-le1 : goal.returns-then-k-le1

@@ -1,6 +1,6 @@
 -- The answers to the goals of `operand_words::gather_third`. Assumes nothing.
 use Rattle.operand_words.specs.Gathers.{from_third, with_word}
-use Rattle.std.proofs.Common.{rules, le-ltb, lt-ltb}
+use Rattle.std.proofs.Common.{le-ltb, lt-ltb}
 use Rattle.operand_words.proofs.gather_third.Goals as goal
 
 pub returns-then-k-le2 : goal.returns-then-k-le2

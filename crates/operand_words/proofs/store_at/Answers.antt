@@ -1,7 +1,7 @@
 -- The answers to the goals of `operand_words::store_at`. Assumes nothing.
 use Rattle.operand_words.specs.Gathers.{stored_one}
 use Rattle.page.proofs.SpanLaws.{kept, taken}
-use Rattle.std.proofs.Common.{refl, rules, le-ltb, lt-ltb}
+use Rattle.std.proofs.Common.{refl, le-ltb, lt-ltb}
 use Rattle.operand_words.proofs.store_at.Goals as goal
 
 pub returns-then-span-j : goal.returns-then-span-j

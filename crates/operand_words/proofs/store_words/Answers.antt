@@ -1,6 +1,5 @@
 -- The answers to the goals of `operand_words::store_words`. Assumes nothing.
 use Rattle.operand_words.proofs.GatherLaws.{three-stored}
-use Rattle.std.proofs.Common.{rules}
 use Rattle.operand_words.proofs.store_words.Goals as goal
 
 pub returns : goal.returns

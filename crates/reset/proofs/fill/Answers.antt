@@ -1,8 +1,6 @@
 -- The answers to the goals of `reset::fill`. Assumes nothing.
-use Prim.Native.Nat.{◌-◌, ◌%◌}
-use Rattle.reset.proofs.FillLaws.{Filled, filled_none, filled-length, filled_more, filled-all}
+use Rattle.reset.proofs.FillLaws.{filled_none, filled-length, filled_more, filled-all}
 use Rattle.reset.specs.Reset.{cycle}
-use lib.ListN.{length}
 use mathlib.Core.Path.{refl}
 use native.Mathlib.Nat.{mod-lt}
 use native.Mathlib.Omega.{arith}

@@ -1,11 +1,7 @@
 -- What the loops keep, and the measures, of `reset::fill`. Assumes nothing.
 use Prim.Native.Nat.{◌-◌, ◌%◌}
-use Rattle.reset.proofs.FillLaws.{Filled, filled_none, filled-length, filled_more, filled-all}
-use Rattle.reset.specs.Reset.{cycle}
+use Rattle.reset.proofs.FillLaws.{Filled}
 use lib.ListN.{length}
-use mathlib.Core.Path.{refl}
-use native.Mathlib.Nat.{mod-lt}
-use native.Mathlib.Omega.{arith}
 use Rattle.reset.proofs.fill.Given as goal
 
 abbrev pub invariant-loop-i : goal.invariant-loop-i

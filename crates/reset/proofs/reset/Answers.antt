@@ -1,7 +1,6 @@
 -- The answers to the goals of `reset::reset`. Assumes nothing.
 use Rattle.reset.proofs.FillLaws.{zeros}
 use Rattle.reset.specs.Reset.{reset_pages, reset_machine}
-use borrow.Author.Rules.{rules}
 use mathlib.Core.Path.{◌∙◌}
 use Rattle.reset.proofs.reset.Goals as goal
 

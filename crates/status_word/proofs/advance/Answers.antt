@@ -1,6 +1,5 @@
 -- The answers to the goals of `status_word::advance`. Assumes nothing.
 use Rattle.page.specs.Spans.{wrapped}
-use Rattle.std.proofs.Common.{rules}
 use Rattle.status_word.proofs.advance.Goals as goal
 
 pub returns : goal.returns

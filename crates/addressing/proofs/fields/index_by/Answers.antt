@@ -1,7 +1,7 @@
 -- The answers to the goals of `addressing::fields::index_by`. Assumes nothing.
 use Rattle.isa.specs.Fields.{indexed}
 use Rattle.page.specs.Spans.{wrapped}
-use Rattle.std.proofs.Common.{rules, eq-eqb, ne_eqb}
+use Rattle.std.proofs.Common.{eq-eqb, ne_eqb}
 use Rattle.addressing.proofs.fields.index_by.Goals as goal
 
 pub returns-then-x-eq0 : goal.returns-then-x-eq0

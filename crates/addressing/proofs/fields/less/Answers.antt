@@ -1,6 +1,6 @@
 -- The answers to the goals of `addressing::fields::less`. Assumes nothing.
 use Rattle.page.specs.Spans.{wrapped}
-use Rattle.std.proofs.Common.{arith, rules}
+use Rattle.std.proofs.Common.{arith}
 use Rattle.addressing.proofs.fields.less.Goals as goal
 
 pub returns : goal.returns

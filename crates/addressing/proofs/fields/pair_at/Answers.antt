@@ -1,6 +1,5 @@
 -- The answers to the goals of `addressing::fields::pair_at`. Assumes nothing.
 use Rattle.isa.specs.Words.{register_pair}
-use Rattle.std.proofs.Common.{rules}
 use Rattle.addressing.proofs.fields.pair_at.Goals as goal
 
 pub returns : goal.returns

@@ -1,6 +1,6 @@
 -- The answers to the goals of `addressing::fields::signed_displacement`. Assumes nothing.
 use Rattle.isa.specs.Fields.{signed_displacement}
-use Rattle.std.proofs.Common.{rules, le-ltb, lt-ltb}
+use Rattle.std.proofs.Common.{le-ltb, lt-ltb}
 use Rattle.addressing.proofs.fields.signed_displacement.Goals as goal
 
 pub returns-then-d-lt128 : goal.returns-then-d-lt128

@@ -1,6 +1,5 @@
 -- The answers to the goals of `addressing::modes::accumulator_of`. Assumes nothing.
 use Rattle.isa.specs.Addressing.{accumulator}
-use Rattle.std.proofs.Common.{rules}
 use Rattle.addressing.proofs.modes.accumulator_of.Goals as goal
 
 pub returns-then-based : goal.returns-then-based

@@ -2,7 +2,7 @@
 use Rattle.addressing.proofs.ModeLaws.{mode-is, indexed-modes, no-modes}
 use Rattle.isa.specs.Addressing.{derived_from}
 use Rattle.page.specs.Spans.{wrapped}
-use Rattle.std.proofs.Common.{refl, ◌∙◌, inl, inr, arith, rules}
+use Rattle.std.proofs.Common.{refl, ◌∙◌, inl, inr, arith}
 use Rattle.addressing.proofs.modes.derive.Goals as goal
 
 pub returns-in-0-to-511 : goal.returns-in-0-to-511

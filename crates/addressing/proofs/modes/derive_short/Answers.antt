@@ -2,7 +2,7 @@
 use Rattle.addressing.proofs.ModeLaws.{mode-is}
 use Rattle.isa.specs.Addressing.{derived_from}
 use Rattle.page.specs.Spans.{wrapped}
-use Rattle.std.proofs.Common.{refl, arith, rules}
+use Rattle.std.proofs.Common.{refl, arith}
 use Rattle.addressing.proofs.modes.derive_short.Goals as goal
 
 pub returns-in-0-to-767 : goal.returns-in-0-to-767

@@ -1,6 +1,5 @@
 -- The answers to the goals of `addressing::modes::double_operand`. Assumes nothing.
 use Rattle.isa.specs.Addressing.{double_operand}
-use Rattle.std.proofs.Common.{rules}
 use Rattle.addressing.proofs.modes.double_operand.Goals as goal
 
 pub returns : goal.returns

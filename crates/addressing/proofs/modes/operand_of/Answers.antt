@@ -1,6 +1,5 @@
 -- The answers to the goals of `addressing::modes::operand_of`. Assumes nothing.
 use Rattle.isa.specs.Addressing.{operand}
-use Rattle.std.proofs.Common.{rules}
 use Rattle.addressing.proofs.modes.operand_of.Goals as goal
 
 pub returns-then-immediate : goal.returns-then-immediate

@@ -1,6 +1,6 @@
 -- The answers to the goals of `addressing::modes::operand_word`. Assumes nothing.
 use Rattle.isa.specs.Addressing.{operand_word, is_register}
-use Rattle.std.proofs.Common.{rules, eq-eqb, ne_eqb}
+use Rattle.std.proofs.Common.{eq-eqb, ne_eqb}
 use Rattle.addressing.proofs.modes.operand_word.Goals as goal
 
 pub returns-then-n-eq-R : goal.returns-then-n-eq-R

@@ -1,5 +1,4 @@
 -- The answers to the goals of `bits::bits::reset_bit`. Assumes nothing.
-use borrow.Author.Rules.{rules}
 use Rattle.bits.proofs.BitLaws.{reset-weight}
 use Rattle.bits.proofs.bits.reset_bit.Goals as goal
 

@@ -1,5 +1,4 @@
 -- The answers to the goals of `bits::bits::set_bit`. Assumes nothing.
-use borrow.Author.Rules.{rules}
 use Rattle.bits.proofs.BitLaws.{set-weight}
 use Rattle.bits.proofs.bits.set_bit.Goals as goal
 

@@ -1,5 +1,4 @@
 -- The answers to the goals of `bits::bits::test_bit`. Assumes nothing.
-use borrow.Author.Rules.{rules}
 use Rattle.bits.proofs.BitLaws.{zero-tested, first-tested, other-tested}
 use Rattle.bits.proofs.bits.test_bit.Goals as goal
 

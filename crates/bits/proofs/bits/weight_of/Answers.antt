@@ -1,5 +1,4 @@
 -- The answers to the goals of `bits::bits::weight_of`. Assumes nothing.
-use borrow.Author.Rules.{rules}
 use Rattle.bits.proofs.BitLaws.{weight-shifted}
 use Rattle.bits.proofs.bits.weight_of.Goals as goal
 

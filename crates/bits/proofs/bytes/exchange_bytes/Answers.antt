@@ -1,5 +1,4 @@
 -- The answers to the goals of `bits::bytes::exchange_bytes`. Assumes nothing.
-use borrow.Author.Rules.{rules}
 use Rattle.bits.specs.Bytes.{exchange}
 use Rattle.bits.proofs.bytes.exchange_bytes.Goals as goal
 

@@ -1,5 +1,4 @@
 -- The answers to the goals of `bits::bytes::load_lower`. Assumes nothing.
-use borrow.Author.Rules.{rules}
 use Rattle.bits.specs.Bytes.{load_lower}
 use Rattle.bits.proofs.bytes.load_lower.Goals as goal
 

@@ -1,5 +1,4 @@
 -- The answers to the goals of `bits::bytes::load_upper`. Assumes nothing.
-use borrow.Author.Rules.{rules}
 use Rattle.bits.specs.Bytes.{load_upper}
 use Rattle.bits.proofs.bytes.load_upper.Goals as goal
 

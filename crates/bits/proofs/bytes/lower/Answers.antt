@@ -1,7 +1,6 @@
 -- The answers to the goals of `bits::bytes::lower`. Assumes nothing.
 use mathlib.Core.Path.{refl}
 use Rattle.bits.specs.Bytes.{lower_byte}
-use borrow.Author.Rules.{rules}
 use Rattle.bits.proofs.bytes.lower.Goals as goal
 
 pub returns : goal.returns

@@ -1,5 +1,4 @@
 -- The answers to the goals of `bits::bytes::store_lower`. Assumes nothing.
-use borrow.Author.Rules.{rules}
 use Rattle.bits.specs.Bytes.{store_lower}
 use Rattle.bits.proofs.bytes.store_lower.Goals as goal
 

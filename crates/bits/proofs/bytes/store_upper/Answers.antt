@@ -1,5 +1,4 @@
 -- The answers to the goals of `bits::bytes::store_upper`. Assumes nothing.
-use borrow.Author.Rules.{rules}
 use Rattle.bits.specs.Bytes.{store_upper}
 use Rattle.bits.proofs.bytes.store_upper.Goals as goal
 

@@ -1,7 +1,6 @@
 -- The answers to the goals of `block_one_page::extents::find_extent`. Assumes nothing.
 use Rattle.block_one_page.specs.Extents.{fitting, extent_of}
 use Rattle.page.proofs.ReachLaws.{located-inside}
-use borrow.Author.Rules.{rules}
 use borrow.Author.Tests.{lt-ltb, le-ltb}
 use mathlib.Core.Path.{refl}
 use native.Mathlib.Omega.{arith}

@@ -1,12 +1,8 @@
 -- The answers to the goals of `block_one_page::extents::push_extent`. Assumes nothing.
-use Prim.Native.Nat.{◌+◌}
 use Rattle.block_one_page.proofs.HereLaws.{downwards, stored-none, stored-step}
-use Rattle.block_one_page.specs.Extents.{stored_at}
 use Rattle.block_registers.proofs.BlockLaws.{pushed_at}
-use Rattle.isa.specs.Blocks.{pushed_from}
-use borrow.Author.Rules.{rules}
-use lib.ListN.{length, length-set}
-use mathlib.Core.Path.{◌≡◌, refl, sym, ◌∙◌}
+use lib.ListN.{length-set}
+use mathlib.Core.Path.{refl, sym, ◌∙◌}
 use native.Mathlib.Omega.{arith}
 use Rattle.block_one_page.proofs.extents.push_extent.Goals as goal
 

@@ -1,10 +1,7 @@
 -- The answers to the goals of `block_one_page::extents::store_extent`. Assumes nothing.
-use Prim.Native.Nat.{◌+◌, ◌≤◌}
 use Rattle.block_one_page.proofs.HereLaws.{upwards, stored-none, stored-step}
-use Rattle.block_one_page.specs.Extents.{stored_at}
-use borrow.Author.Rules.{rules}
-use lib.ListN.{length, length-set}
-use mathlib.Core.Path.{◌≡◌, refl, sym, ◌∙◌}
+use lib.ListN.{length-set}
+use mathlib.Core.Path.{refl, sym, ◌∙◌}
 use native.Mathlib.Omega.{arith}
 use Rattle.block_one_page.proofs.extents.store_extent.Goals as goal
 

@@ -1,11 +1,9 @@
 -- What the loops keep, and the measures, of `block_one_page::extents::store_extent`. Assumes nothing.
 use Prim.Native.Nat.{◌+◌, ◌≤◌}
-use Rattle.block_one_page.proofs.HereLaws.{upwards, stored-none, stored-step}
+use Rattle.block_one_page.proofs.HereLaws.{upwards}
 use Rattle.block_one_page.specs.Extents.{stored_at}
-use borrow.Author.Rules.{rules}
-use lib.ListN.{length, length-set}
-use mathlib.Core.Path.{◌≡◌, refl, sym, ◌∙◌}
-use native.Mathlib.Omega.{arith}
+use lib.ListN.{length}
+use mathlib.Core.Path.{◌≡◌}
 use Rattle.block_one_page.proofs.extents.store_extent.Given as goal
 
 abbrev pub invariant-loop-left : goal.invariant-loop-left

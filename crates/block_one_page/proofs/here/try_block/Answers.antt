@@ -1,5 +1,4 @@
 -- The answers to the goals of `block_one_page::here::try_block`. Assumes nothing.
-use borrow.Author.Rules.{rules}
 use mathlib.Core.Path.{refl}
 use Rattle.block_one_page.proofs.here.try_block.Goals as goal
 

@@ -1,7 +1,6 @@
 -- The answers to the goals of `block_one_page::here::try_load`. Assumes nothing.
 use Rattle.block_one_page.proofs.HereLaws.{extent-found, loaded-here}
 use Rattle.machine.specs.State.{joined}
-use borrow.Author.Rules.{rules}
 use mathlib.Core.Path.{refl}
 use native.Mathlib.Omega.{arith}
 use Rattle.block_one_page.proofs.here.try_load.Goals as goal

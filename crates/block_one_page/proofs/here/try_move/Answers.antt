@@ -2,7 +2,6 @@
 use Rattle.block_one_page.proofs.HereLaws.{moved_here}
 use Rattle.machine.specs.State.{joined}
 use Rattle.page.proofs.ReachLaws.{located-inside}
-use borrow.Author.Rules.{rules}
 use borrow.Author.Tests.{ne_eqb}
 use mathlib.Core.Path.{sym, ◌∙◌}
 use Rattle.block_one_page.proofs.here.try_move.Goals as goal

@@ -1,7 +1,6 @@
 -- The answers to the goals of `block_one_page::here::try_pop`. Assumes nothing.
 use Rattle.block_one_page.proofs.HereLaws.{extent-found, popped-here}
 use Rattle.machine.specs.State.{joined}
-use borrow.Author.Rules.{rules}
 use mathlib.Core.Path.{refl}
 use Rattle.block_one_page.proofs.here.try_pop.Goals as goal
 

@@ -3,7 +3,6 @@ use Rattle.block_one_page.proofs.HereLaws.{pushed-here}
 use Rattle.machine.specs.State.{joined}
 use Rattle.page.proofs.NearLaws.{found-offset}
 use Rattle.page.proofs.ReachLaws.{located-inside}
-use borrow.Author.Rules.{rules}
 use mathlib.Core.Path.{sym, ◌∙◌}
 use native.Mathlib.Omega.{arith}
 use Rattle.block_one_page.proofs.here.try_push.Goals as goal

@@ -3,7 +3,6 @@ use Rattle.block_one_page.proofs.HereLaws.{extent-found, stored_here}
 use Rattle.isa.specs.Blocks.{stored_all}
 use Rattle.isa.specs.Mil1750.{context_of}
 use Rattle.machine.specs.State.{joined}
-use borrow.Author.Rules.{rules}
 use native.Mathlib.Omega.{arith}
 use Rattle.block_one_page.proofs.here.try_store.Goals as goal
 

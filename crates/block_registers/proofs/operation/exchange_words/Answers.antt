@@ -1,7 +1,6 @@
 -- The answers to the goals of `block_registers::operation::exchange_words`. Assumes nothing.
 use Rattle.isa.specs.Blocks.{exchanged_words}
 use Rattle.isa.specs.Mil1750.{context_of}
-use Rattle.std.proofs.Common.{rules}
 use Rattle.block_registers.proofs.operation.exchange_words.Goals as goal
 
 pub returns : goal.returns

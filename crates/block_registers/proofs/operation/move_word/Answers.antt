@@ -2,7 +2,7 @@
 use Rattle.block_registers.proofs.BlockLaws.{nothing_is}
 use Rattle.isa.specs.Blocks.{moved_word}
 use Rattle.isa.specs.Mil1750.{context_of}
-use Rattle.std.proofs.Common.{rules, eq-eqb, ne_eqb}
+use Rattle.std.proofs.Common.{eq-eqb, ne_eqb}
 use Rattle.block_registers.proofs.operation.move_word.Goals as goal
 
 pub returns-then-get-eq0 : goal.returns-then-get-eq0

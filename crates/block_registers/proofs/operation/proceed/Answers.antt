@@ -1,6 +1,5 @@
 -- The answers to the goals of `block_registers::operation::proceed`. Assumes nothing.
 use Rattle.isa.specs.Mil1750.{context_of}
-use Rattle.std.proofs.Common.{rules}
 use Rattle.block_registers.proofs.operation.proceed.Goals as goal
 
 pub returns : goal.returns

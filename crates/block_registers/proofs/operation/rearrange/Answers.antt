@@ -1,5 +1,5 @@
 -- The answers to the goals of `block_registers::operation::rearrange`. Assumes nothing.
-use Rattle.std.proofs.Common.{◌%◌, [], ◌∷◌, sym, ◌∙◌, arith, rules}
+use Rattle.std.proofs.Common.{◌%◌, [], ◌∷◌, sym, ◌∙◌, arith}
 use Rattle.block_registers.specs.Operation.{is_block}
 use Rattle.choice.proofs.SelectLaws.{otherwise}
 use Rattle.isa.specs.Blocks.{stored_all}

@@ -2,7 +2,7 @@
 use Rattle.isa.specs.Blocks.{rearranged}
 use Rattle.isa.specs.Mil1750.{context_of}
 use Rattle.machine.specs.Step.{affected}
-use Rattle.std.proofs.Common.{refl, rules}
+use Rattle.std.proofs.Common.{refl}
 use Rattle.block_registers.proofs.operation.settle.Goals as goal
 
 pub returns : goal.returns

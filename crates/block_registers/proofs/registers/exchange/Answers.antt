@@ -1,5 +1,4 @@
 -- The answers to the goals of `block_registers::registers::exchange`. Assumes nothing.
-use Rattle.std.proofs.Common.{rules}
 use Rattle.block_registers.proofs.registers.exchange.Goals as goal
 
 pub returns : goal.returns

@@ -1,7 +1,6 @@
 -- The answers to the goals of `block_registers::registers::load_all`. Assumes nothing.
-use Rattle.std.proofs.Common.{◌≡◌, ◌+◌, ◌≤◌, length, take, drop, sym, refl, ◌∙◌, add-zero, arith, rules}
+use Rattle.std.proofs.Common.{◌+◌, sym, refl, ◌∙◌, add-zero, arith}
 use Rattle.block_registers.proofs.BlockLaws.{loaded-none, loaded-step}
-use Rattle.isa.specs.Fields.{with_registers}
 use Rattle.block_registers.proofs.registers.load_all.Goals as goal
 
 pub overflow_add-left : goal.overflow_add-left

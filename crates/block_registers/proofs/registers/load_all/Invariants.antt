@@ -1,6 +1,5 @@
 -- What the loops keep, and the measures, of `block_registers::registers::load_all`. Assumes nothing.
-use Rattle.std.proofs.Common.{◌≡◌, ◌+◌, ◌≤◌, length, take, drop, sym, refl, ◌∙◌, add-zero, arith, rules}
-use Rattle.block_registers.proofs.BlockLaws.{loaded-none, loaded-step}
+use Rattle.std.proofs.Common.{◌≡◌, ◌+◌, ◌≤◌, length, take, drop}
 use Rattle.isa.specs.Fields.{with_registers}
 use Rattle.block_registers.proofs.registers.load_all.Given as goal
 

@@ -1,5 +1,5 @@
 -- The answers to the goals of `block_registers::registers::lower`. Assumes nothing.
-use Rattle.std.proofs.Common.{◌≡◌, ◌+◌, rules}
+use Rattle.std.proofs.Common.{◌≡◌, ◌+◌}
 use Rattle.isa.specs.Blocks.{changed_by}
 use Rattle.page.specs.Spans.{wrapped}
 use Rattle.block_registers.proofs.registers.lower.Goals as goal

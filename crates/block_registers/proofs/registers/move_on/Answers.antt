@@ -1,6 +1,5 @@
 -- The answers to the goals of `block_registers::registers::move_on`. Assumes nothing.
 use Rattle.isa.specs.Blocks.{moved_on}
-use Rattle.std.proofs.Common.{rules}
 use Rattle.block_registers.proofs.registers.move_on.Goals as goal
 
 pub returns : goal.returns

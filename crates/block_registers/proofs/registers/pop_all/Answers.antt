@@ -1,6 +1,6 @@
 -- The answers to the goals of `block_registers::registers::pop_all`. Assumes nothing.
 use Rattle.page.specs.Spans.{wrapped}
-use Rattle.std.proofs.Common.{arith, rules}
+use Rattle.std.proofs.Common.{arith}
 use Rattle.block_registers.proofs.registers.pop_all.Goals as goal
 
 pub registers_from-k-requires : goal.registers_from-k-requires

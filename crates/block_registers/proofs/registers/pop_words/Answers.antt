@@ -1,7 +1,6 @@
 -- The answers to the goals of `block_registers::registers::pop_words`. Assumes nothing.
-use Rattle.std.proofs.Common.{◌≡◌, ◌+◌, ◌≤◌, length, drop, sym, refl, ◌∙◌, arith, get_or-drop, rules, eq-eqb, ne_eqb}
+use Rattle.std.proofs.Common.{sym, refl, ◌∙◌, arith, get_or-drop, eq-eqb, ne_eqb}
 use Rattle.block_registers.proofs.BlockLaws.{popped-none, popped-step}
-use Rattle.isa.specs.Blocks.{popped_from}
 use Rattle.block_registers.proofs.registers.pop_words.Goals as goal
 
 pub loop-left-init : goal.loop-left-init

@@ -1,6 +1,5 @@
 -- What the loops keep, and the measures, of `block_registers::registers::pop_words`. Assumes nothing.
-use Rattle.std.proofs.Common.{◌≡◌, ◌+◌, ◌≤◌, length, drop, sym, refl, ◌∙◌, arith, get_or-drop, rules, eq-eqb, ne_eqb}
-use Rattle.block_registers.proofs.BlockLaws.{popped-none, popped-step}
+use Rattle.std.proofs.Common.{◌≡◌, ◌+◌, ◌≤◌, length, drop}
 use Rattle.isa.specs.Blocks.{popped_from}
 use Rattle.block_registers.proofs.registers.pop_words.Given as goal
 

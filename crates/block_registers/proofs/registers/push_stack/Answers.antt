@@ -1,5 +1,4 @@
 -- The answers to the goals of `block_registers::registers::push_stack`. Assumes nothing.
-use Rattle.std.proofs.Common.{rules}
 use Rattle.block_registers.proofs.registers.push_stack.Goals as goal
 
 pub registers_from-k-requires : goal.registers_from-k-requires

@@ -1,7 +1,6 @@
 -- The answers to the goals of `block_registers::registers::raise`. Assumes nothing.
 use Rattle.isa.specs.Blocks.{changed_by}
 use Rattle.page.specs.Spans.{wrapped}
-use Rattle.std.proofs.Common.{rules}
 use Rattle.block_registers.proofs.registers.raise.Goals as goal
 
 pub returns : goal.returns

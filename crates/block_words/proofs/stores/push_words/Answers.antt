@@ -1,11 +1,7 @@
 -- The answers to the goals of `block_words::stores::push_words`. Assumes nothing.
-use Prim.Native.Nat.{◌-◌, ◌≤◌, ◌<◌}
 use Rattle.block_registers.proofs.BlockLaws.{pushed_none, pushed-step}
-use Rattle.isa.specs.Blocks.{pushed_from}
-use borrow.Author.Rules.{rules}
-use lib.ListN.{length, length-set}
-use lib.Seq.{sets}
-use mathlib.Core.Path.{◌≡◌, refl, sym, ◌∙◌}
+use lib.ListN.{length-set}
+use mathlib.Core.Path.{refl, sym, ◌∙◌}
 use native.Mathlib.Nat.{sub-zero}
 use native.Mathlib.Omega.{arith}
 use Rattle.block_words.proofs.stores.push_words.Goals as goal

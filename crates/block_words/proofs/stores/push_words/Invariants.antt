@@ -1,13 +1,9 @@
 -- What the loops keep, and the measures, of `block_words::stores::push_words`. Assumes nothing.
 use Prim.Native.Nat.{◌-◌, ◌≤◌, ◌<◌}
-use Rattle.block_registers.proofs.BlockLaws.{pushed_none, pushed-step}
 use Rattle.isa.specs.Blocks.{pushed_from}
-use borrow.Author.Rules.{rules}
-use lib.ListN.{length, length-set}
+use lib.ListN.{length}
 use lib.Seq.{sets}
-use mathlib.Core.Path.{◌≡◌, refl, sym, ◌∙◌}
-use native.Mathlib.Nat.{sub-zero}
-use native.Mathlib.Omega.{arith}
+use mathlib.Core.Path.{◌≡◌}
 use Rattle.block_words.proofs.stores.push_words.Given as goal
 
 abbrev pub invariant-loop-i : goal.invariant-loop-i

@@ -1,6 +1,5 @@
 -- The answers to the goals of `block_words::stores::store_moved`. Assumes nothing.
 use Rattle.block_registers.proofs.BlockLaws.{moved-written}
-use borrow.Author.Rules.{rules}
 use mathlib.Core.Path.{◌∙◌}
 use Rattle.block_words.proofs.stores.store_moved.Goals as goal
 

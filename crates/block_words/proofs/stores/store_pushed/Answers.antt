@@ -1,7 +1,6 @@
 -- The answers to the goals of `block_words::stores::store_pushed`. Assumes nothing.
 use Rattle.block_registers.proofs.BlockLaws.{written-agree, pushed-first}
 use Rattle.isa.specs.Accesses.{pushed_span}
-use borrow.Author.Rules.{rules}
 use lib.ListN.{get_or}
 use mathlib.Core.Path.{ap, ◌∙◌}
 use Rattle.block_words.proofs.stores.store_pushed.Goals as goal

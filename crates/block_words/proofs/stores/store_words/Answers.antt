@@ -6,7 +6,6 @@ use Rattle.choice.proofs.SelectLaws.{otherwise}
 use Rattle.isa.specs.Accesses.{words_written, writes_of}
 use Rattle.isa.specs.Blocks.{rearranged, stored_all, pushed_all}
 use Rattle.isa.specs.Execute.{executed}
-use borrow.Author.Rules.{rules}
 use mathlib.Core.Bool.{false≢true}
 use mathlib.Core.List.{[], ◌∷◌}
 use mathlib.Core.Path.{sym, ◌∙◌}

@@ -1,6 +1,6 @@
 -- The answers to the goals of `clock::deferred::deferrable`. Assumes nothing.
 use Rattle.clock.specs.Deferred.{deferrable_of}
-use Rattle.std.proofs.Common.{refl, mul-le-mul_left, arith, rules}
+use Rattle.std.proofs.Common.{refl, mul-le-mul_left, arith}
 use Rattle.clock.proofs.deferred.deferrable.Goals as goal
 
 pub returns : goal.returns

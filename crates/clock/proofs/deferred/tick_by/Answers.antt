@@ -1,7 +1,7 @@
 -- The answers to the goals of `clock::deferred::tick_by`. Assumes nothing.
 use Rattle.clock.specs.Deferred.{after_ticks}
 use Rattle.machine.specs.State.{with_count}
-use Rattle.std.proofs.Common.{refl, rules, eq-eqb, ne_eqb}
+use Rattle.std.proofs.Common.{refl, eq-eqb, ne_eqb}
 use Rattle.clock.proofs.deferred.tick_by.Goals as goal
 
 pub returns-then-n-eq0 : goal.returns-then-n-eq0

@@ -1,5 +1,5 @@
 -- The answers to the goals of `clock::deferred::ticks_left`. Assumes nothing.
-use Rattle.std.proofs.Common.{◌-◌, sym, refl, ◌∙◌, mul-le-mul_left, arith, rules, le-ltb, lt-ltb}
+use Rattle.std.proofs.Common.{◌-◌, sym, refl, ◌∙◌, mul-le-mul_left, arith, le-ltb, lt-ltb}
 use Rattle.clock.specs.Deferred.{ticks_left}
 use mathlib.Core.Bool.{false≢true}
 use native.Mathlib.Nat.{mul-div-le}

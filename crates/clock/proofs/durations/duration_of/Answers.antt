@@ -1,5 +1,5 @@
 -- The answers to the goals of `clock::durations::duration_of`. Assumes nothing.
-use Rattle.std.proofs.Common.{◌≡◌, ◌/◌, ◌%◌, arith, rules}
+use Rattle.std.proofs.Common.{◌≡◌, ◌/◌, ◌%◌, arith}
 use Rattle.machine.specs.Step.{timed_by}
 use Rattle.clock.proofs.durations.duration_of.Goals as goal
 

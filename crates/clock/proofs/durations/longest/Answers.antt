@@ -1,5 +1,5 @@
 -- The answers to the goals of `clock::durations::longest`. Assumes nothing.
-use Rattle.std.proofs.Common.{◌≡◌, ◌-◌, ◌<◌, ◌≤◌, length, refl, ap, ◌∙◌, arith}
+use Rattle.std.proofs.Common.{refl, ap, ◌∙◌, arith}
 use Rattle.clock.proofs.LongestLaws.{longest-next, larger-within}
 use Rattle.clock.specs.Deferred.{longest_to, longest_of}
 use Rattle.clock.proofs.durations.longest.Goals as goal

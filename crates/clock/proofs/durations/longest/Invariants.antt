@@ -1,7 +1,6 @@
 -- What the loops keep, and the measures, of `clock::durations::longest`. Assumes nothing.
-use Rattle.std.proofs.Common.{◌≡◌, ◌-◌, ◌<◌, ◌≤◌, length, refl, ap, ◌∙◌, arith}
-use Rattle.clock.proofs.LongestLaws.{longest-next, larger-within}
-use Rattle.clock.specs.Deferred.{longest_to, longest_of}
+use Rattle.std.proofs.Common.{◌≡◌, ◌-◌, ◌<◌, ◌≤◌, length}
+use Rattle.clock.specs.Deferred.{longest_to}
 use Rattle.clock.proofs.durations.longest.Given as goal
 
 abbrev pub invariant-loop-i : goal.invariant-loop-i

@@ -1,6 +1,6 @@
 -- The answers to the goals of `clock::time::elapse`. Assumes nothing.
 use Rattle.machine.specs.Step.{elapsed, counted}
-use Rattle.std.proofs.Common.{refl, rules}
+use Rattle.std.proofs.Common.{refl}
 use Rattle.clock.proofs.time.elapse.Goals as goal
 
 pub returns : goal.returns

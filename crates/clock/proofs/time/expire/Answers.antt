@@ -1,6 +1,6 @@
 -- The answers to the goals of `clock::time::expire`. Assumes nothing.
 use Rattle.machine.specs.Step.{expired, passing}
-use Rattle.std.proofs.Common.{refl, rules}
+use Rattle.std.proofs.Common.{refl}
 use Rattle.clock.proofs.time.expire.Goals as goal
 
 pub returns : goal.returns

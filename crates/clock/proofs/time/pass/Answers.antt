@@ -1,5 +1,5 @@
 -- The answers to the goals of `clock::time::pass`. Assumes nothing.
-use Rattle.std.proofs.Common.{refl, rules, le-leb}
+use Rattle.std.proofs.Common.{refl, le-leb}
 use borrow.Author.Tests.{lt-leb}
 use Rattle.clock.proofs.time.pass.Goals as goal
 

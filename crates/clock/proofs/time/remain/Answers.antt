@@ -1,5 +1,5 @@
 -- The answers to the goals of `clock::time::remain`. Assumes nothing.
-use Rattle.std.proofs.Common.{◌+◌, refl, mod-lt, arith, rules}
+use Rattle.std.proofs.Common.{◌+◌, refl, mod-lt, arith}
 use Rattle.machine.specs.Step.{remaining}
 use Rattle.clock.proofs.time.remain.Goals as goal
 

@@ -1,7 +1,7 @@
 -- The answers to the goals of `clock::time::rise`. Assumes nothing.
 use Rattle.machine.specs.Step.{risen}
 use Rattle.page.specs.Spans.{wrapped}
-use Rattle.std.proofs.Common.{◌∙◌, arith, rules}
+use Rattle.std.proofs.Common.{◌∙◌, arith}
 use Rattle.clock.proofs.time.rise.Goals as goal
 
 pub returns-then-on : goal.returns-then-on

@@ -1,5 +1,5 @@
 -- The answers to the goals of `clock::time::rise_count`. Assumes nothing.
-use Rattle.std.proofs.Common.{◌+◌, refl, div-le_self, arith, rules}
+use Rattle.std.proofs.Common.{◌+◌, refl, div-le_self, arith}
 use Rattle.machine.specs.Step.{rises}
 use Rattle.clock.proofs.time.rise_count.Goals as goal
 

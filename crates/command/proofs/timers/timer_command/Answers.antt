@@ -2,7 +2,6 @@
 use Rattle.choice.proofs.SelectLaws.{otherwise}
 use Rattle.isa.specs.Commands.{timer_rules, timer_command}
 use Rattle.machine.specs.State.{joined, with_processor, with_clock, with_ta, with_tb, with_rem_a, with_rem_b, with_ta_on, with_tb_on}
-use borrow.Author.Rules.{rules}
 use mathlib.Core.Path.{refl, sym, ap}
 use Rattle.command.proofs.timers.timer_command.Goals as goal
 

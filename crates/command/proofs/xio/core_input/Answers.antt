@@ -3,7 +3,6 @@ use Rattle.choice.proofs.SelectLaws.{otherwise}
 use Rattle.command.proofs.CommandLaws.{unlisted}
 use Rattle.command.specs.Transfer.{governed, Kept}
 use Rattle.isa.specs.Commands.{core_command, becomes, with_ra, faults_read}
-use borrow.Author.Rules.{rules}
 use borrow.Author.Tests.{le-ltb}
 use lib.Dec.{ltb}
 use mathlib.Core.List.{[], ◌∷◌}

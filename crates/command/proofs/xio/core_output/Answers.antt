@@ -4,7 +4,6 @@ use Rattle.command.proofs.CommandLaws.{unlisted}
 use Rattle.command.specs.Transfer.{governed}
 use Rattle.isa.specs.Commands.{core_command, becomes}
 use Rattle.machine.specs.State.{joined, with_processor, with_enabled, with_hold}
-use borrow.Author.Rules.{rules}
 use borrow.Author.Tests.{lt-leb}
 use lib.Dec.{leb}
 use mathlib.Core.List.{[], ◌∷◌}

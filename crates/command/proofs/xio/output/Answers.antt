@@ -2,7 +2,6 @@
 use Rattle.command.proofs.CommandLaws.{same}
 use Rattle.command.specs.Transfer.{governed, Kept}
 use Rattle.isa.specs.Commands.{commanded, state_command, becomes}
-use borrow.Author.Rules.{rules}
 use borrow.Author.Tests.{le-leb, lt-leb}
 use mathlib.Core.Path.{refl}
 use native.Mathlib.Omega.{arith}

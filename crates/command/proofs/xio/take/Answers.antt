@@ -1,5 +1,4 @@
 -- The answers to the goals of `command::xio::take`. Assumes nothing.
-use borrow.Author.Rules.{rules}
 use Rattle.command.proofs.xio.take.Goals as goal
 
 pub returns : goal.returns

@@ -1,6 +1,5 @@
 -- The answers to the goals of `effect::shapes::double`. Assumes nothing.
 use Rattle.isa.specs.Effects.{double}
-use Rattle.std.proofs.Common.{rules}
 use Rattle.effect.proofs.shapes.double.Goals as goal
 
 pub returns : goal.returns

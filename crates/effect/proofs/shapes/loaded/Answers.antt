@@ -1,6 +1,5 @@
 -- The answers to the goals of `effect::shapes::loaded`. Assumes nothing.
 use Rattle.isa.specs.Effects.{loaded}
-use Rattle.std.proofs.Common.{rules}
 use Rattle.effect.proofs.shapes.loaded.Goals as goal
 
 pub returns : goal.returns

@@ -1,7 +1,7 @@
 -- The answers to the goals of `effect::shapes::modified`. Assumes nothing.
 use Rattle.effect.specs.Work.{worked, filled}
 use Rattle.isa.specs.Effects.{effect, modified}
-use Rattle.std.proofs.Common.{refl, rules}
+use Rattle.std.proofs.Common.{refl}
 use Rattle.effect.proofs.shapes.modified.Goals as goal
 
 pub returns : goal.returns

@@ -1,6 +1,5 @@
 -- The answers to the goals of `effect::shapes::nothing`. Assumes nothing.
 use Rattle.isa.specs.Effects.{nothing, stored}
-use Rattle.std.proofs.Common.{rules}
 use Rattle.effect.proofs.shapes.nothing.Goals as goal
 
 pub returns : goal.returns

@@ -2,7 +2,7 @@
 use Rattle.isa.specs.Addressing.{is_register}
 use Rattle.isa.specs.Effects.{replaced}
 use Rattle.isa.specs.Fields.{field_b}
-use Rattle.std.proofs.Common.{rules, eq-eqb, ne_eqb}
+use Rattle.std.proofs.Common.{eq-eqb, ne_eqb}
 use Rattle.effect.proofs.shapes.replaced.Goals as goal
 
 pub returns-then-n-eq1 : goal.returns-then-n-eq1

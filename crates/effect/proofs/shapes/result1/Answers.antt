@@ -1,7 +1,7 @@
 -- The answers to the goals of `effect::shapes::result1`. Assumes nothing.
 use Rattle.effect.specs.Work.{worked, filled}
 use Rattle.isa.specs.Effects.{effect, into_registers}
-use Rattle.std.proofs.Common.{refl, rules}
+use Rattle.std.proofs.Common.{refl}
 use Rattle.effect.proofs.shapes.result1.Goals as goal
 
 pub returns : goal.returns

@@ -1,7 +1,7 @@
 -- The answers to the goals of `effect::shapes::result3`. Assumes nothing.
 use Rattle.effect.specs.Work.{worked, filled}
 use Rattle.isa.specs.Effects.{effect, into_registers}
-use Rattle.std.proofs.Common.{refl, rules}
+use Rattle.std.proofs.Common.{refl}
 use Rattle.effect.proofs.shapes.result3.Goals as goal
 
 pub returns : goal.returns

@@ -1,6 +1,5 @@
 -- The answers to the goals of `effect::shapes::single`. Assumes nothing.
 use Rattle.isa.specs.Effects.{single}
-use Rattle.std.proofs.Common.{rules}
 use Rattle.effect.proofs.shapes.single.Goals as goal
 
 pub returns : goal.returns

@@ -1,7 +1,7 @@
 -- The answers to the goals of `effect::shapes::stored`. Assumes nothing.
 use Rattle.effect.specs.Work.{worked, filled}
 use Rattle.isa.specs.Effects.{effect, stored}
-use Rattle.std.proofs.Common.{refl, rules}
+use Rattle.std.proofs.Common.{refl}
 use Rattle.effect.proofs.shapes.stored.Goals as goal
 
 pub returns : goal.returns

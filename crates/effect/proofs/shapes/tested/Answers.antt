@@ -1,6 +1,5 @@
 -- The answers to the goals of `effect::shapes::tested`. Assumes nothing.
 use Rattle.isa.specs.Effects.{tested, into_registers, modified}
-use Rattle.std.proofs.Common.{rules}
 use Rattle.effect.proofs.shapes.tested.Goals as goal
 
 pub returns : goal.returns

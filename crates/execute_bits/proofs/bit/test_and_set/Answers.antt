@@ -1,5 +1,4 @@
 -- The answers to the goals of `execute_bits::bit::test_and_set`. Assumes nothing.
-use borrow.Author.Rules.{rules}
 use Rattle.execute_bits.proofs.bit.test_and_set.Goals as goal
 
 pub returns : goal.returns

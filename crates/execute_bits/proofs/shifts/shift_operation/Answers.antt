@@ -2,7 +2,6 @@
 use Prim.Native.Nat.{◌%◌}
 use Rattle.choice.proofs.SelectLaws.{otherwise}
 use Rattle.isa.specs.Words.{shift_operation}
-use borrow.Author.Rules.{rules}
 use mathlib.Core.List.{[], ◌∷◌}
 use mathlib.Core.Path.{sym, ◌∙◌}
 use Rattle.execute_bits.proofs.shifts.shift_operation.Goals as goal

@@ -1,6 +1,5 @@
 -- The answers to the goals of `execute_bits::shifts::shifted_double`. Assumes nothing.
 use Rattle.isa.specs.Words.{shifted_double}
-use borrow.Author.Rules.{rules}
 use mathlib.Core.Path.{ap}
 use Rattle.execute_bits.proofs.shifts.shifted_double.Goals as goal
 

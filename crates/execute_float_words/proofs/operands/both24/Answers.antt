@@ -1,6 +1,5 @@
 -- The answers to the goals of `execute_float_words::operands::both24`. Assumes nothing.
 use Rattle.execute_float_words.specs.Operands.{operands24}
-use borrow.Author.Rules.{rules}
 use mathlib.Core.Path.{refl}
 use Rattle.execute_float_words.proofs.operands.both24.Goals as goal
 

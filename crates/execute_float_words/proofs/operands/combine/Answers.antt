@@ -1,6 +1,5 @@
 -- The answers to the goals of `execute_float_words::operands::combine`. Assumes nothing.
 use Rattle.execute_float_words.specs.Operands.{arithmetic}
-use borrow.Author.Rules.{rules}
 use borrow.Author.Tests.{ne_eqb}
 use Rattle.execute_float_words.proofs.operands.combine.Goals as goal
 

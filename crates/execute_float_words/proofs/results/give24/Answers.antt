@@ -1,6 +1,5 @@
 -- The answers to the goals of `execute_float_words::results::give24`. Assumes nothing.
 use Rattle.isa.specs.Floats.{float24}
-use borrow.Author.Rules.{rules}
 use Rattle.execute_float_words.proofs.results.give24.Goals as goal
 
 pub returns : goal.returns

@@ -1,6 +1,5 @@
 -- The answers to the goals of `execute_float_words::results::give40`. Assumes nothing.
 use Rattle.isa.specs.Floats.{float40}
-use borrow.Author.Rules.{rules}
 use Rattle.execute_float_words.proofs.results.give40.Goals as goal
 
 pub returns : goal.returns

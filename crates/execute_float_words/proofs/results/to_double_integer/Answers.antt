@@ -1,6 +1,5 @@
 -- The answers to the goals of `execute_float_words::results::to_double_integer`. Assumes nothing.
 use Rattle.execute_float_words.proofs.FloatEffects.{double-integer-is}
-use borrow.Author.Rules.{rules}
 use mathlib.Core.Path.{◌∙◌}
 use Rattle.execute_float_words.proofs.results.to_double_integer.Goals as goal
 

@@ -1,5 +1,4 @@
 -- The answers to the goals of `execute_integers::outcomes::combine32`. Assumes nothing.
-use borrow.Author.Rules.{rules}
 use borrow.Author.Tests.{ne_eqb}
 use Rattle.execute_integers.proofs.outcomes.combine32.Goals as goal
 

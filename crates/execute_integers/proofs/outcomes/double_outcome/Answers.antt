@@ -1,6 +1,5 @@
 -- The answers to the goals of `execute_integers::outcomes::double_outcome`. Assumes nothing.
 use Rattle.execute_integers.proofs.OutcomeLaws.{double-is}
-use borrow.Author.Rules.{rules}
 use mathlib.Core.Path.{◌∙◌}
 use Rattle.execute_integers.proofs.outcomes.double_outcome.Goals as goal
 

@@ -1,6 +1,5 @@
 -- The answers to the goals of `execute_integers::outcomes::memory_outcome`. Assumes nothing.
 use Rattle.execute_integers.proofs.OutcomeLaws.{memory-is}
-use borrow.Author.Rules.{rules}
 use mathlib.Core.Path.{◌∙◌}
 use Rattle.execute_integers.proofs.outcomes.memory_outcome.Goals as goal
 

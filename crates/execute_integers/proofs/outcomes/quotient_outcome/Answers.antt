@@ -1,6 +1,5 @@
 -- The answers to the goals of `execute_integers::outcomes::quotient_outcome`. Assumes nothing.
 use Rattle.isa.specs.Integers.{quotient_outcome}
-use borrow.Author.Rules.{rules}
 use Rattle.execute_integers.proofs.outcomes.quotient_outcome.Goals as goal
 
 pub returns : goal.returns

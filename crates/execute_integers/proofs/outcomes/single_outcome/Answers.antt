@@ -1,6 +1,5 @@
 -- The answers to the goals of `execute_integers::outcomes::single_outcome`. Assumes nothing.
 use Rattle.execute_integers.proofs.OutcomeLaws.{single-is}
-use borrow.Author.Rules.{rules}
 use mathlib.Core.Path.{◌∙◌}
 use Rattle.execute_integers.proofs.outcomes.single_outcome.Goals as goal
 

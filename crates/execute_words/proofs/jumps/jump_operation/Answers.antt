@@ -1,5 +1,5 @@
 -- The answers to the goals of `execute_words::jumps::jump_operation`. Assumes nothing.
-use Rattle.std.proofs.Common.{◌≡◌, ◌+◌, rules}
+use Rattle.std.proofs.Common.{◌≡◌, ◌+◌}
 use Rattle.isa.specs.Words.{jump_operation}
 use Rattle.page.specs.Spans.{wrapped}
 use Rattle.execute_words.proofs.jumps.jump_operation.Goals as goal

@@ -2,7 +2,7 @@
 use Rattle.effect.specs.Work.{worked, filled}
 use Rattle.isa.specs.Effects.{effect}
 use Rattle.isa.specs.Words.{subtracted_and_jumped}
-use Rattle.std.proofs.Common.{refl, rules}
+use Rattle.std.proofs.Common.{refl}
 use Rattle.execute_words.proofs.jumps.subtracted_and_jumped.Goals as goal
 
 pub returns : goal.returns

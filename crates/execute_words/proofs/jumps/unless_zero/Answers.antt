@@ -1,5 +1,5 @@
 -- The answers to the goals of `execute_words::jumps::unless_zero`. Assumes nothing.
-use Rattle.std.proofs.Common.{rules, eq-eqb, ne_eqb}
+use Rattle.std.proofs.Common.{eq-eqb, ne_eqb}
 use Rattle.execute_words.proofs.jumps.unless_zero.Goals as goal
 
 pub returns-then-ra-eq0 : goal.returns-then-ra-eq0

@@ -1,5 +1,5 @@
 -- The answers to the goals of `execute_words::loads::load_operation`. Assumes nothing.
-use Rattle.std.proofs.Common.{◌%◌, [], ◌∷◌, sym, ◌∙◌, rules}
+use Rattle.std.proofs.Common.{◌%◌, [], ◌∷◌, sym, ◌∙◌}
 use Rattle.choice.proofs.SelectLaws.{otherwise}
 use Rattle.isa.specs.Words.{load_operation}
 use Rattle.execute_words.proofs.loads.load_operation.Goals as goal

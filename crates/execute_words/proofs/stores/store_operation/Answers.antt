@@ -1,5 +1,5 @@
 -- The answers to the goals of `execute_words::stores::store_operation`. Assumes nothing.
-use Rattle.std.proofs.Common.{◌%◌, [], ◌∷◌, sym, ◌∙◌, rules}
+use Rattle.std.proofs.Common.{◌%◌, [], ◌∷◌, sym, ◌∙◌}
 use Rattle.choice.proofs.SelectLaws.{otherwise}
 use Rattle.isa.specs.Words.{store_operation}
 use Rattle.execute_words.proofs.stores.store_operation.Goals as goal

@@ -8,7 +8,7 @@ use Rattle.isa.specs.Effects.{effect, jumped}
 use Rattle.isa.specs.Fields.{with_registers}
 use Rattle.isa.specs.Mil1750.{context_of}
 use Rattle.machine.specs.State.{cs_of, joined}
-use Rattle.std.proofs.Common.{◌≡◌, true, false, sym, refl, ap, ◌∙◌, arith, rules}
+use Rattle.std.proofs.Common.{◌≡◌, true, false, sym, refl, ap, ◌∙◌, arith}
 use Rattle.fast.proofs.branch.branch.Goals as goal
 
 pub returns-then-is_taken : goal.returns-then-is_taken

@@ -1,6 +1,6 @@
 -- The answers to the goals of `fast::branch::is_taken`. Assumes nothing.
 use Rattle.fast_accumulate.specs.Paths.{is_taken}
-use Rattle.std.proofs.Common.{rules, eq-eqb, ne_eqb}
+use Rattle.std.proofs.Common.{eq-eqb, ne_eqb}
 use Rattle.fast.proofs.branch.is_taken.Goals as goal
 
 pub returns-then-operation-eq24 : goal.returns-then-operation-eq24

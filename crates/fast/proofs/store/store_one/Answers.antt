@@ -10,7 +10,7 @@ use Rattle.isa.specs.Mil1750.{context_of}
 use Rattle.machine.specs.Machine.{span_from}
 use Rattle.machine.specs.State.{joined}
 use Rattle.page.proofs.ReachLaws.{located-inside}
-use Rattle.std.proofs.Common.{false, cond, sym, refl, ap, ◌∙◌, arith, rules}
+use Rattle.std.proofs.Common.{false, cond, sym, refl, ap, ◌∙◌, arith}
 use Rattle.fast.proofs.store.store_one.Goals as goal
 
 pub write_count-requires : goal.write_count-requires

@@ -1,5 +1,5 @@
 -- The answers to the goals of `fast::store::store_two`. Assumes nothing.
-use Rattle.std.proofs.Common.{◌+◌, false, cond, sym, refl, ap, ◌∙◌, arith, rules}
+use Rattle.std.proofs.Common.{◌+◌, false, cond, sym, refl, ap, ◌∙◌, arith}
 use Rattle.decode.specs.Forms.{mode_of}
 use Rattle.fast_accumulate.proofs.EndLaws.{pair-done, pair-refused, idle-done}
 use Rattle.fast_accumulate.proofs.PathLaws.{path-user, path-reads, path-writes, path-stored, path-store, some_words, no_words, does-pair}

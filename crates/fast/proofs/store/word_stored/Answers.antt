@@ -1,6 +1,6 @@
 -- The answers to the goals of `fast::store::word_stored`. Assumes nothing.
 use Rattle.fast_accumulate.specs.Paths.{word_stored}
-use Rattle.std.proofs.Common.{rules, eq-eqb, ne_eqb}
+use Rattle.std.proofs.Common.{eq-eqb, ne_eqb}
 use Rattle.fast.proofs.store.word_stored.Goals as goal
 
 pub returns-then-n-eq45 : goal.returns-then-n-eq45

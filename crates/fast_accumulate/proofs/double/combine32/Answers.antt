@@ -1,7 +1,6 @@
 -- The answers to the goals of `fast_accumulate::double::combine32`. Assumes nothing.
 use Rattle.choice.proofs.SelectLaws.{otherwise}
 use Rattle.fast_accumulate.specs.Paths.{into_double}
-use borrow.Author.Rules.{rules}
 use mathlib.Core.List.{[], ◌∷◌}
 use Rattle.fast_accumulate.proofs.double.combine32.Goals as goal
 

@@ -13,7 +13,6 @@ use Rattle.isa.specs.Mil1750.{context_of}
 use Rattle.isa.specs.Words.{register_pair}
 use Rattle.machine.specs.State.{joined}
 use Rattle.word.specs.Pair.{high_word, low_word}
-use borrow.Author.Rules.{rules}
 use mathlib.Core.Path.{◌≡◌, refl, ap, ◌∙◌}
 use native.Mathlib.Omega.{arith}
 use Rattle.fast_accumulate.proofs.double.into_double.Goals as goal

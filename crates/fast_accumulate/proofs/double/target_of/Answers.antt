@@ -1,6 +1,5 @@
 -- The answers to the goals of `fast_accumulate::double::target_of`. Assumes nothing.
 use Rattle.fast_accumulate.specs.Paths.{target}
-use borrow.Author.Rules.{rules}
 use borrow.Author.Tests.{eq-eqb, ne_eqb}
 use Rattle.fast_accumulate.proofs.double.target_of.Goals as goal
 

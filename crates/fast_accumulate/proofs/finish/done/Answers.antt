@@ -1,7 +1,6 @@
 -- The answers to the goals of `fast_accumulate::finish::done`. Assumes nothing.
 use Rattle.machine.specs.State.{with_pi, with_sw, with_ic}
 use Rattle.machine.specs.Step.{affected}
-use borrow.Author.Rules.{rules}
 use mathlib.Core.Path.{refl}
 use Rattle.fast_accumulate.proofs.finish.done.Goals as goal
 

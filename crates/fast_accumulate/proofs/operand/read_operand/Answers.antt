@@ -1,7 +1,6 @@
 -- The answers to the goals of `fast_accumulate::operand::read_operand`. Assumes nothing.
 use Rattle.fast_accumulate.proofs.PathLaws.{path-counted}
 use Rattle.isa.specs.Accesses.{at_operand}
-use borrow.Author.Rules.{rules}
 use Rattle.fast_accumulate.proofs.operand.read_operand.Goals as goal
 
 pub gather-requires : goal.gather-requires

@@ -1,7 +1,6 @@
 -- The answers to the goals of `fast_accumulate::single::combine16`. Assumes nothing.
 use Rattle.choice.proofs.SelectLaws.{otherwise}
 use Rattle.fast_accumulate.specs.Paths.{into_single}
-use borrow.Author.Rules.{rules}
 use mathlib.Core.List.{[], ◌∷◌}
 use Rattle.fast_accumulate.proofs.single.combine16.Goals as goal
 

@@ -10,7 +10,6 @@ use Rattle.isa.specs.Fields.{with_register}
 use Rattle.isa.specs.Integers.{single_outcome}
 use Rattle.isa.specs.Mil1750.{context_of}
 use Rattle.machine.specs.State.{joined}
-use borrow.Author.Rules.{rules}
 use mathlib.Core.Path.{◌≡◌, refl, ap, ◌∙◌}
 use native.Mathlib.Omega.{arith}
 use Rattle.fast_accumulate.proofs.single.into_single.Goals as goal

@@ -1,7 +1,6 @@
 -- The answers to the goals of `fast_accumulate::single::plain16`. Assumes nothing.
 use Rattle.fast_accumulate.specs.Paths.{plain}
 use Rattle.fixed_add.specs.Fixed.{single}
-use borrow.Author.Rules.{rules}
 use mathlib.Core.Path.{refl}
 use Rattle.fast_accumulate.proofs.single.plain16.Goals as goal
 

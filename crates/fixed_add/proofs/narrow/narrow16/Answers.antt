@@ -1,7 +1,6 @@
 -- The answers to the goals of `fixed_add::narrow::narrow16`. Assumes nothing.
 use mathlib.Core.Path.{sym, ap, subst}
 use Prim.Native.Nat.{ℕ, ◌<◌}
-use borrow.Author.Rules.{rules}
 use Rattle.fixed_add.specs.Fixed.{single}
 use Rattle.fixed_add.proofs.NarrowLaws.{status-lt, narrowed}
 use Rattle.fixed_add.proofs.narrow.narrow16.Goals as goal

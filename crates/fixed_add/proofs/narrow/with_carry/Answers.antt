@@ -1,5 +1,4 @@
 -- The answers to the goals of `fixed_add::narrow::with_carry`. Assumes nothing.
-use borrow.Author.Rules.{rules}
 use Rattle.word.specs.Status.{with_carry}
 use Rattle.fixed_add.proofs.narrow.with_carry.Goals as goal
 

@@ -1,6 +1,5 @@
 -- The answers to the goals of `fixed_add::sums::absolute16`. Assumes nothing.
 use mathlib.Core.Path.{◌∙◌, ap}
-use borrow.Author.Rules.{rules}
 use Rattle.fixed_add.specs.Fixed.{single}
 use Rattle.fixed_add.proofs.SumLaws.{absolute-low, absolute-high}
 use Rattle.fixed_add.proofs.sums.absolute16.Goals as goal

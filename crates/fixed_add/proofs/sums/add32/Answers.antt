@@ -1,6 +1,5 @@
 -- The answers to the goals of `fixed_add::sums::add32`. Assumes nothing.
 use mathlib.Core.Path.{◌∙◌, ap}
-use borrow.Author.Rules.{rules}
 use lib.Dec.{lit≤}
 use Rattle.fixed_add.specs.Fixed.{double}
 use Rattle.fixed_add.proofs.SumLaws.{excess-is, sum_is}

@@ -1,7 +1,6 @@
 -- The answers to the goals of `fixed_muldiv::parts::join16`. Assumes nothing.
 use mathlib.Core.Path.{◌∙◌, ap}
 use mathlib.Core.Bool.{false}
-use borrow.Author.Rules.{rules}
 use Rattle.fixed_add.specs.Fixed.{single, outcome_of}
 use Rattle.fixed_muldiv.proofs.PartsLaws.{plus, minus}
 use Rattle.fixed_muldiv.proofs.parts.join16.Goals as goal

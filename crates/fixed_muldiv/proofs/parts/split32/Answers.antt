@@ -1,5 +1,4 @@
 -- The answers to the goals of `fixed_muldiv::parts::split32`. Assumes nothing.
-use borrow.Author.Rules.{rules}
 use lib.Dec.{lit≤}
 use Rattle.twos_complement.proofs.Signs.{parts_low, parts-high}
 use Rattle.fixed_muldiv.proofs.parts.split32.Goals as goal

@@ -1,7 +1,6 @@
 -- The answers to the goals of `fixed_muldiv::products::multiply16`. Assumes nothing.
 use mathlib.Core.Path.{◌∙◌, ap}
 use Prim.Native.Nat.{◌^◌}
-use borrow.Author.Rules.{rules}
 use Rattle.fixed_add.specs.Fixed.{single}
 use Rattle.fixed_muldiv.proofs.ProductLaws.{product_lt, product_is}
 use Rattle.fixed_muldiv.proofs.products.multiply16.Goals as goal

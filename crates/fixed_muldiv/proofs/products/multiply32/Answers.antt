@@ -1,7 +1,6 @@
 -- The answers to the goals of `fixed_muldiv::products::multiply32`. Assumes nothing.
 use mathlib.Core.Path.{◌∙◌, ap}
 use Prim.Native.Nat.{◌^◌}
-use borrow.Author.Rules.{rules}
 use Rattle.fixed_add.specs.Fixed.{double}
 use Rattle.fixed_muldiv.proofs.ProductLaws.{product_lt, product_is}
 use Rattle.fixed_muldiv.proofs.products.multiply32.Goals as goal

@@ -1,5 +1,4 @@
 -- The answers to the goals of `fixed_muldiv::quotients::divide`. Assumes nothing.
-use borrow.Author.Rules.{rules}
 use Rattle.fixed_muldiv.proofs.QuotientLaws.{division-zero, division-is}
 use Rattle.fixed_muldiv.proofs.quotients.divide.Goals as goal
 

@@ -1,6 +1,5 @@
 -- The answers to the goals of `fixed_muldiv::quotients::divide16`. Assumes nothing.
 use mathlib.Core.Path.{◌∙◌}
-use borrow.Author.Rules.{rules}
 use Rattle.fixed_muldiv.proofs.QuotientLaws.{divided-is}
 use Rattle.fixed_muldiv.proofs.quotients.divide16.Goals as goal
 

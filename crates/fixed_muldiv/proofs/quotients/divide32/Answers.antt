@@ -1,7 +1,6 @@
 -- The answers to the goals of `fixed_muldiv::quotients::divide32`. Assumes nothing.
 use mathlib.Core.Path.{◌∙◌, ap}
 use Prim.Native.Nat.{◌^◌}
-use borrow.Author.Rules.{rules}
 use Rattle.fixed_add.specs.Fixed.{double}
 use Rattle.fixed_muldiv.proofs.QuotientLaws.{quotient-zero, quotient-lt, quotient_is}
 use Rattle.fixed_muldiv.proofs.quotients.divide32.Goals as goal

@@ -1,5 +1,4 @@
 -- The answers to the goals of `fixed_muldiv::quotients::divide_long`. Assumes nothing.
-use borrow.Author.Rules.{rules}
 use Rattle.fixed_muldiv.proofs.QuotientLaws.{long-divided-is}
 use Rattle.fixed_muldiv.proofs.quotients.divide_long.Goals as goal
 

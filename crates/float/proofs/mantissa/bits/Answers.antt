@@ -1,7 +1,6 @@
 -- The answers to the goals of `float::mantissa::bits`. Assumes nothing.
 use native.Mathlib.Omega.{arith}
 use Rattle.float.proofs.MantissaLaws.{bits-low, bits-high}
-use borrow.Author.Rules.{rules}
 use Rattle.float.proofs.mantissa.bits.Goals as goal
 
 pub returns-then-x-h : goal.returns-then-x-h

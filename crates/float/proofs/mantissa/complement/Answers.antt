@@ -1,6 +1,5 @@
 -- The answers to the goals of `float::mantissa::complement`. Assumes nothing.
 use Rattle.float.proofs.MantissaLaws.{low-mag, high-mag}
-use borrow.Author.Rules.{rules}
 use Rattle.float.proofs.mantissa.complement.Goals as goal
 
 pub returns-then-m-h : goal.returns-then-m-h

@@ -2,7 +2,6 @@
 use native.Mathlib.Omega.{arith}
 use Rattle.float.proofs.FloatLaws.{distance-lt}
 use Rattle.float.proofs.MantissaLaws.{leading_zeros}
-use borrow.Author.Rules.{rules}
 use Rattle.float.proofs.mantissa.distance.Goals as goal
 
 pub overflow_sub-result-2 : goal.overflow_sub-result-2

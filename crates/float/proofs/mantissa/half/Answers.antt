@@ -1,6 +1,5 @@
 -- The answers to the goals of `float::mantissa::half`. Assumes nothing.
 use Rattle.float.proofs.MantissaLaws.{half-weight}
-use borrow.Author.Rules.{rules}
 use Rattle.float.proofs.mantissa.half.Goals as goal
 
 pub returns : goal.returns

@@ -1,6 +1,5 @@
 -- The answers to the goals of `float::mantissa::loses`. Assumes nothing.
 use Rattle.float.proofs.MantissaLaws.{lost-all, lost-low}
-use borrow.Author.Rules.{rules}
 use Rattle.float.proofs.mantissa.loses.Goals as goal
 
 pub returns-then-w-n : goal.returns-then-w-n

@@ -2,7 +2,6 @@
 use native.Mathlib.Omega.{arith}
 use lib.Pow.{pow_pos}
 use Rattle.float.proofs.MantissaLaws.{power, low_bits}
-use borrow.Author.Rules.{rules}
 use Rattle.float.proofs.mantissa.low.Goals as goal
 
 pub overflow_sub-result : goal.overflow_sub-result

@@ -2,7 +2,6 @@
 use mathlib.Core.Path.{◌∙◌}
 use Rattle.float.proofs.FloatLaws.{norm-zero, norm-under, norm-done, whole_float}
 use Rattle.float.proofs.MantissaLaws.{moved}
-use borrow.Author.Rules.{rules}
 use Rattle.float.proofs.mantissa.normalise.Goals as goal
 
 pub returns-then-m-eq0 : goal.returns-then-m-eq0

@@ -4,7 +4,6 @@ use Prim.Native.Nat.{◌+◌, ◌-◌}
 use mathlib.Core.Path.{refl}
 use lib.Pow.{shr_le}
 use Rattle.float.proofs.MantissaLaws.{shift-low, shift-high, shift-low-out, shift-high-out}
-use borrow.Author.Rules.{rules}
 use Rattle.float.proofs.mantissa.shift.Goals as goal
 
 pub returns-then-m-h : goal.returns-then-m-h

@@ -1,7 +1,6 @@
 -- The answers to the goals of `float::mantissa::status`. Assumes nothing.
 use native.Mathlib.Omega.{arith}
 use Rattle.word.proofs.StatusLaws.{zero-status, positive-status, negative-status}
-use borrow.Author.Rules.{rules}
 use Rattle.float.proofs.mantissa.status.Goals as goal
 
 pub returns-then-m-eq0 : goal.returns-then-m-eq0

@@ -2,7 +2,6 @@
 use mathlib.Core.Path.{refl}
 use native.Mathlib.Omega.{arith}
 use Rattle.float.specs.Words.{exponent_of}
-use borrow.Author.Rules.{rules}
 use Rattle.float.proofs.packing.exponent.Goals as goal
 
 pub returns : goal.returns

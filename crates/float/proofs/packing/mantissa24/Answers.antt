@@ -2,7 +2,6 @@
 use mathlib.Core.Path.{refl}
 use native.Mathlib.Omega.{arith}
 use Rattle.float.specs.Words.{mantissa24}
-use borrow.Author.Rules.{rules}
 use Rattle.float.proofs.packing.mantissa24.Goals as goal
 
 pub returns : goal.returns

@@ -1,8 +1,7 @@
 -- The answers to the goals of `float::packing::mantissa40`. Assumes nothing.
 use mathlib.Core.Path.{refl}
 use native.Mathlib.Omega.{arith}
-use Rattle.float.specs.Words.{mantissa24, mantissa40}
-use borrow.Author.Rules.{rules}
+use Rattle.float.specs.Words.{mantissa40}
 use Rattle.float.proofs.packing.mantissa40.Goals as goal
 
 pub returns : goal.returns

@@ -1,7 +1,6 @@
 -- The answers to the goals of `float::packing::third_word`. Assumes nothing.
 use mathlib.Core.Path.{refl}
 use Rattle.float.specs.Words.{third_word}
-use borrow.Author.Rules.{rules}
 use Rattle.float.proofs.packing.third_word.Goals as goal
 
 pub returns : goal.returns

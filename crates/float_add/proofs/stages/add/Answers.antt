@@ -2,7 +2,6 @@
 use mathlib.Core.Path.{ap, ◌∙◌}
 use Rattle.float.specs.Float.{given}
 use Rattle.float_add.proofs.AddLaws.{sum_fits, added}
-use borrow.Author.Rules.{rules}
 use Rattle.float_add.proofs.stages.add.Goals as goal
 
 pub overflow_add-x : goal.overflow_add-x

@@ -4,7 +4,6 @@ use native.Mathlib.Omega.{arith}
 use Rattle.float.specs.Float.{given}
 use Rattle.float.proofs.FloatLaws.{whole_float}
 use Rattle.float_add.proofs.AddLaws.{done, over-low, over-high}
-use borrow.Author.Rules.{rules}
 use Rattle.float_add.proofs.stages.finish.Goals as goal
 
 pub returns-then-e-le255 : goal.returns-then-e-le255

@@ -2,7 +2,6 @@
 use mathlib.Core.Path.{ap, ◌∙◌}
 use Rattle.float.specs.Float.{given}
 use Rattle.float_add.proofs.AddLaws.{fit_low, fit-high, fit-held}
-use borrow.Author.Rules.{rules}
 use Rattle.float_add.proofs.stages.fit.Goals as goal
 
 pub returns-then-s-h : goal.returns-then-s-h

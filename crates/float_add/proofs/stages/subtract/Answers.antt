@@ -2,7 +2,6 @@
 use mathlib.Core.Path.{ap, ◌∙◌}
 use Rattle.float.specs.Float.{given}
 use Rattle.float_add.proofs.AddLaws.{subtracted}
-use borrow.Author.Rules.{rules}
 use Rattle.float_add.proofs.stages.subtract.Goals as goal
 
 pub returns : goal.returns

@@ -1,6 +1,5 @@
 -- The answers to the goals of `float_convert::convert::fix`. Assumes nothing.
 use Rattle.float_convert.proofs.ConvertLaws.{fixed-over, fixed-done, fixed-fits}
-use borrow.Author.Rules.{rules}
 use Rattle.float_convert.proofs.convert.fix.Goals as goal
 
 pub returns-then-n-e : goal.returns-then-n-e

@@ -2,7 +2,6 @@
 use native.Mathlib.Omega.{arith}
 use Rattle.float.proofs.MantissaLaws.{lost-yes, lost-no}
 use Rattle.float_convert.proofs.ConvertLaws.{truncate-low, truncate-exact, truncate-next, truncate-lost}
-use borrow.Author.Rules.{rules}
 use Rattle.float_convert.proofs.convert.truncate.Goals as goal
 
 pub returns-then-m-h : goal.returns-then-m-h

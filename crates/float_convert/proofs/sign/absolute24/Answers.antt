@@ -4,7 +4,6 @@ use lib.Dec.{lit≤}
 use Rattle.float.specs.Float.{given}
 use Rattle.float.proofs.FloatLaws.{whole_float}
 use Rattle.float_convert.proofs.SignLaws.{absolute-low, absolute-high}
-use borrow.Author.Rules.{rules}
 use Rattle.float_convert.proofs.sign.absolute24.Goals as goal
 
 pub returns-then-m-lt8388608 : goal.returns-then-m-lt8388608

@@ -3,7 +3,6 @@ use mathlib.Core.Path.{◌∙◌}
 use lib.Dec.{lit≤}
 use Rattle.float.proofs.FloatLaws.{whole_float}
 use Rattle.float_convert.proofs.SignLaws.{negate-extreme, negate-up, negate_zero, negate-down, negate-else}
-use borrow.Author.Rules.{rules}
 use Rattle.float_convert.proofs.sign.negate24.Goals as goal
 
 pub returns-then-e-eq255 : goal.returns-then-e-eq255

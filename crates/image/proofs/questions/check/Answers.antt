@@ -1,8 +1,7 @@
 -- The answers to the goals of `image::questions::check`. Assumes nothing.
 use Rattle.image.specs.Image.{admission}
 use Rattle.machine.specs.Runs.{asked}
-use borrow.Author.Rules.{rules}
-use borrow.Author.Tests.{eq-eqb, ne_eqb, not-true, not-false}
+use borrow.Author.Tests.{eq-eqb, ne_eqb}
 use mathlib.Core.Path.{refl}
 use Rattle.image.proofs.questions.check.Goals as goal
 

@@ -1,9 +1,6 @@
 -- The answers to the goals of `image::questions::check_entries`. Assumes nothing.
-use Prim.Native.Nat.{◌+◌}
 use Rattle.image.proofs.QuestionLaws.{entries_none, entries-on, entries-out}
-use Rattle.image.specs.Image.{entries_answer}
-use borrow.Author.Rules.{rules}
-use mathlib.Core.Path.{◌≡◌, refl, sym, ◌∙◌}
+use mathlib.Core.Path.{refl, sym, ◌∙◌}
 use native.Mathlib.Omega.{arith}
 use Rattle.image.proofs.questions.check_entries.Goals as goal
 

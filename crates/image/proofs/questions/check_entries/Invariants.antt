@@ -1,10 +1,7 @@
 -- What the loops keep, and the measures, of `image::questions::check_entries`. Assumes nothing.
 use Prim.Native.Nat.{◌+◌}
-use Rattle.image.proofs.QuestionLaws.{entries_none, entries-on, entries-out}
 use Rattle.image.specs.Image.{entries_answer}
-use borrow.Author.Rules.{rules}
-use mathlib.Core.Path.{◌≡◌, refl, sym, ◌∙◌}
-use native.Mathlib.Omega.{arith}
+use mathlib.Core.Path.{◌≡◌}
 use Rattle.image.proofs.questions.check_entries.Given as goal
 
 abbrev pub invariant-loop-left : goal.invariant-loop-left

@@ -1,6 +1,5 @@
 -- The answers to the goals of `image::questions::check_entry`. Assumes nothing.
 use Rattle.image.proofs.QuestionLaws.{kind-below, kind-above, no_words, outside, shared, entry-right}
-use borrow.Author.Rules.{rules}
 use Rattle.image.proofs.questions.check_entry.Goals as goal
 
 pub returns-then-e-lt1 : goal.returns-then-e-lt1

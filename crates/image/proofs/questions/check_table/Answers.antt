@@ -1,6 +1,5 @@
 -- The answers to the goals of `image::questions::check_table`. Assumes nothing.
 use Rattle.image.proofs.QuestionLaws.{many-entries, short-table, bad-entry, bad-bodies, table-right}
-use borrow.Author.Rules.{rules}
 use Rattle.image.proofs.questions.check_table.Goals as goal
 
 pub returns-then-n-gt64 : goal.returns-then-n-gt64

@@ -1,6 +1,5 @@
 -- The answers to the goals of `image::questions::shares`. Assumes nothing.
 use Rattle.image.specs.Image.{share}
-use borrow.Author.Rules.{rules}
 use borrow.Author.Tests.{eq-eqb, ne_eqb, lt-ltb, le-ltb}
 use mathlib.Core.Path.{refl}
 use Rattle.image.proofs.questions.shares.Goals as goal

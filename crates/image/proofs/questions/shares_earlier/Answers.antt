@@ -1,9 +1,6 @@
 -- The answers to the goals of `image::questions::shares_earlier`. Assumes nothing.
-use Prim.Native.Nat.{◌≤◌}
 use Rattle.image.proofs.QuestionLaws.{shares-none, shares-here, shares-on}
-use Rattle.image.specs.Image.{shares_earlier}
-use borrow.Author.Rules.{rules}
-use mathlib.Core.Path.{◌≡◌, refl, sym, ◌∙◌}
+use mathlib.Core.Path.{refl, sym, ◌∙◌}
 use native.Mathlib.Omega.{arith}
 use Rattle.image.proofs.questions.shares_earlier.Goals as goal
 

@@ -1,10 +1,7 @@
 -- What the loops keep, and the measures, of `image::questions::shares_earlier`. Assumes nothing.
 use Prim.Native.Nat.{◌≤◌}
-use Rattle.image.proofs.QuestionLaws.{shares-none, shares-here, shares-on}
 use Rattle.image.specs.Image.{shares_earlier}
-use borrow.Author.Rules.{rules}
-use mathlib.Core.Path.{◌≡◌, refl, sym, ◌∙◌}
-use native.Mathlib.Omega.{arith}
+use mathlib.Core.Path.{◌≡◌}
 use Rattle.image.proofs.questions.shares_earlier.Given as goal
 
 abbrev pub invariant-loop-left : goal.invariant-loop-left

@@ -1,6 +1,5 @@
 -- The answers to the goals of `image::table::end`. Assumes nothing.
 use Rattle.image.specs.Image.{end_of}
-use borrow.Author.Rules.{rules}
 use mathlib.Core.Path.{refl}
 use Rattle.image.proofs.table.end.Goals as goal
 

@@ -1,6 +1,5 @@
 -- The answers to the goals of `image::table::entry_at`. Assumes nothing.
 use Rattle.image.specs.Image.{entry_at}
-use borrow.Author.Rules.{rules}
 use mathlib.Core.Path.{refl}
 use Rattle.image.proofs.table.entry_at.Goals as goal
 

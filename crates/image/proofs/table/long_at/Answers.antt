@@ -1,6 +1,5 @@
 -- The answers to the goals of `image::table::long_at`. Assumes nothing.
 use Rattle.image.specs.Image.{long_at}
-use borrow.Author.Rules.{rules}
 use mathlib.Core.Path.{refl}
 use Rattle.image.proofs.table.long_at.Goals as goal
 

@@ -1,6 +1,5 @@
 -- The answers to the goals of `image::table::word_at`. Assumes nothing.
 use Rattle.image.specs.Image.{word_at}
-use borrow.Author.Rules.{rules}
 use mathlib.Core.Path.{refl}
 use Rattle.image.proofs.table.word_at.Goals as goal
 

@@ -1,9 +1,7 @@
 -- The answers to the goals of `image::table::words_before`. Assumes nothing.
-use Prim.Native.Nat.{◌-◌, ◌*◌, ◌≤◌}
 use Rattle.image.proofs.QuestionLaws.{words_more}
 use Rattle.image.specs.Image.{words_before}
-use borrow.Author.Rules.{rules}
-use mathlib.Core.Path.{◌≡◌, refl, ap, ◌∙◌}
+use mathlib.Core.Path.{refl, ap, ◌∙◌}
 use native.Mathlib.Omega.{arith}
 use Rattle.image.proofs.table.words_before.Goals as goal
 

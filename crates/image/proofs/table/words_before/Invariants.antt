@@ -1,10 +1,7 @@
 -- What the loops keep, and the measures, of `image::table::words_before`. Assumes nothing.
 use Prim.Native.Nat.{◌-◌, ◌*◌, ◌≤◌}
-use Rattle.image.proofs.QuestionLaws.{words_more}
 use Rattle.image.specs.Image.{words_before}
-use borrow.Author.Rules.{rules}
-use mathlib.Core.Path.{◌≡◌, refl, ap, ◌∙◌}
-use native.Mathlib.Omega.{arith}
+use mathlib.Core.Path.{◌≡◌}
 use Rattle.image.proofs.table.words_before.Given as goal
 
 abbrev pub invariant-loop-k : goal.invariant-loop-k

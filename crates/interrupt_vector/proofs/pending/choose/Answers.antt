@@ -1,6 +1,6 @@
 -- The answers to the goals of `interrupt_vector::pending::choose`. Assumes nothing.
 use Rattle.machine.proofs.InterruptLaws.{chosen-leading, chosen-held}
-use Rattle.std.proofs.Common.{sym, ◌∙◌, arith, rules}
+use Rattle.std.proofs.Common.{sym, ◌∙◌, arith}
 use lib.Bits.{bit_and}
 use lib.Count.{leading_le}
 use Rattle.interrupt_vector.proofs.pending.choose.Goals as goal

@@ -1,6 +1,5 @@
 -- The answers to the goals of `interrupt_vector::pointers::call_vector`. Assumes nothing.
 use Rattle.machine.specs.Entries.{call_of}
-use Rattle.std.proofs.Common.{rules}
 use Rattle.interrupt_vector.proofs.pointers.call_vector.Goals as goal
 
 pub returns : goal.returns

@@ -1,6 +1,5 @@
 -- The answers to the goals of `interrupt_vector::pointers::gather`. Assumes nothing.
 use Rattle.machine.specs.Entries.{read_after}
-use Rattle.std.proofs.Common.{rules}
 use Rattle.interrupt_vector.proofs.pointers.gather.Goals as goal
 
 pub returns-in-Word : goal.returns-in-Word

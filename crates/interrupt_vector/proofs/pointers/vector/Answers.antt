@@ -1,6 +1,5 @@
 -- The answers to the goals of `interrupt_vector::pointers::vector`. Assumes nothing.
 use Rattle.machine.specs.Entries.{vector_of}
-use Rattle.std.proofs.Common.{rules}
 use Rattle.interrupt_vector.proofs.pointers.vector.Goals as goal
 
 pub returns-in-All : goal.returns-in-All

@@ -1,7 +1,7 @@
 -- The answers to the goals of `interrupt_vector::pointers::vector_each`. Assumes nothing.
 use Rattle.machine.specs.Entries.{vector_at}
 use Rattle.page.specs.Spans.{wrapped}
-use Rattle.std.proofs.Common.{refl, rules}
+use Rattle.std.proofs.Common.{refl}
 use Rattle.interrupt_vector.proofs.pointers.vector_each.Goals as goal
 
 pub returns : goal.returns

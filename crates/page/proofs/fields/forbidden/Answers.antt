@@ -1,6 +1,5 @@
 -- The answers to the goals of `page::fields::forbidden`. Assumes nothing.
 use Rattle.page.specs.Pages.{barred}
-use Rattle.std.proofs.Common.{rules}
 use Rattle.page.proofs.fields.forbidden.Goals as goal
 
 pub returns-in-Fetch : goal.returns-in-Fetch

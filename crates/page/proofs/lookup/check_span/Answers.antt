@@ -1,7 +1,7 @@
 -- The answers to the goals of `page::lookup::check_span`. Assumes nothing.
-use Rattle.std.proofs.Common.{◌≡◌, ◌+◌, ◌≤◌, sym, refl, ◌∙◌, arith, rules}
+use Rattle.std.proofs.Common.{sym, refl, ◌∙◌, arith}
 use Rattle.page.proofs.SpanLaws.{kept, taken, checked-none, then-as, checked-step}
-use Rattle.page.specs.Spans.{and_then, checked_from, checked}
+use Rattle.page.specs.Spans.{and_then, checked}
 use Rattle.page.proofs.lookup.check_span.Goals as goal
 
 pub loop-left-init : goal.loop-left-init

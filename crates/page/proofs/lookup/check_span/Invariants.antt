@@ -1,7 +1,6 @@
 -- What the loops keep, and the measures, of `page::lookup::check_span`. Assumes nothing.
-use Rattle.std.proofs.Common.{◌≡◌, ◌+◌, ◌≤◌, sym, refl, ◌∙◌, arith, rules}
-use Rattle.page.proofs.SpanLaws.{kept, taken, checked-none, then-as, checked-step}
-use Rattle.page.specs.Spans.{and_then, checked_from, checked}
+use Rattle.std.proofs.Common.{◌≡◌, ◌+◌, ◌≤◌}
+use Rattle.page.specs.Spans.{checked_from, checked}
 use Rattle.page.proofs.lookup.check_span.Given as goal
 
 abbrev pub invariant-loop-left : goal.invariant-loop-left

@@ -1,6 +1,6 @@
 -- The answers to the goals of `page::lookup::ioi`. Assumes nothing.
 use Rattle.page.specs.Pages.{ioi_of}
-use Rattle.std.proofs.Common.{arith, rules}
+use Rattle.std.proofs.Common.{arith}
 use Rattle.page.proofs.lookup.ioi.Goals as goal
 
 pub returns-in-Fetch : goal.returns-in-Fetch

@@ -1,7 +1,5 @@
 -- The answers to the goals of `page::lookup::locate`. Assumes nothing.
 use Rattle.page.proofs.LookupLaws.{locked, shut, inside, outside}
-use Rattle.std.proofs.Common.{rules}
-use borrow.Author.Tests.{not-true, not-false}
 use Rattle.page.proofs.lookup.locate.Goals as goal
 
 pub returns-then-forbidden : goal.returns-then-forbidden

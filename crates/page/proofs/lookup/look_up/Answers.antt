@@ -1,6 +1,6 @@
 -- The answers to the goals of `page::lookup::look_up`. Assumes nothing.
 use Rattle.page.proofs.LookupLaws.{register-below, listed}
-use Rattle.std.proofs.Common.{arith, rules}
+use Rattle.std.proofs.Common.{arith}
 use Rattle.page.proofs.lookup.look_up.Goals as goal
 
 pub offset_bounds-pages-i : goal.offset_bounds-pages-i

@@ -1,6 +1,5 @@
 -- The answers to the goals of `page::lookup::refuse`. Assumes nothing.
 use Rattle.page.specs.Pages.{mfs_at}
-use Rattle.std.proofs.Common.{rules}
 use Rattle.page.proofs.lookup.refuse.Goals as goal
 
 pub returns : goal.returns

@@ -1,7 +1,7 @@
 -- The answers to the goals of `page::lookup::register`. Assumes nothing.
 use Rattle.page.proofs.LookupLaws.{set_below}
 use Rattle.page.specs.Pages.{register_at}
-use Rattle.std.proofs.Common.{arith, rules}
+use Rattle.std.proofs.Common.{arith}
 use Rattle.page.proofs.lookup.register.Goals as goal
 
 pub overflow_add-result : goal.overflow_add-result

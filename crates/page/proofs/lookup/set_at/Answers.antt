@@ -1,6 +1,5 @@
 -- The answers to the goals of `page::lookup::set_at`. Assumes nothing.
 use Rattle.page.specs.Pages.{set_of}
-use Rattle.std.proofs.Common.{rules}
 use Rattle.page.proofs.lookup.set_at.Goals as goal
 
 pub returns-in-Fetch : goal.returns-in-Fetch

@@ -1,5 +1,4 @@
 -- The answers to the goals of `shift::counted::arithmetic16`. Assumes nothing.
-use borrow.Author.Rules.{rules}
 use mathlib.Core.Path.{ap, ap₂}
 use Rattle.shift.specs.Shift.{outcome, plain, shifted16}
 use Rattle.shift.proofs.CountLaws.{left-within, right-within, left-shifted, right-shifted, not-shifted}

@@ -1,5 +1,4 @@
 -- The answers to the goals of `shift::counted::count_of`. Assumes nothing.
-use borrow.Author.Rules.{rules}
 use Rattle.shift.proofs.CountLaws.{left-count, left-beyond, right-count, right-beyond}
 use Rattle.shift.proofs.counted.count_of.Goals as goal
 

@@ -1,5 +1,4 @@
 -- The answers to the goals of `shift::counted::logical32`. Assumes nothing.
-use borrow.Author.Rules.{rules}
 use mathlib.Core.Path.{ap}
 use Rattle.shift.specs.Shift.{plain, shifted32}
 use Rattle.shift.proofs.CountLaws.{left-within, right-within, left-shifted, right-shifted, not-shifted}

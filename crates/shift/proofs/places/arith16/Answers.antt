@@ -1,5 +1,4 @@
 -- The answers to the goals of `shift::places::arith16`. Assumes nothing.
-use borrow.Author.Rules.{rules}
 use mathlib.Core.Path.{◌∙◌, ap}
 use Prim.Native.Nat.{ℕ, ◌-◌}
 use lib.Dec.{lit≤}

@@ -1,5 +1,4 @@
 -- The answers to the goals of `shift::places::cyclic32`. Assumes nothing.
-use borrow.Author.Rules.{rules}
 use Rattle.shift.proofs.ShiftLaws.{around}
 use Rattle.shift.proofs.places.cyclic32.Goals as goal
 

@@ -1,5 +1,4 @@
 -- The answers to the goals of `shift::places::left32`. Assumes nothing.
-use borrow.Author.Rules.{rules}
 use Rattle.twos_complement.proofs.Shifts.{left}
 use Rattle.shift.proofs.places.left32.Goals as goal
 

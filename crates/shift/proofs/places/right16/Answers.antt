@@ -1,6 +1,5 @@
 -- The answers to the goals of `shift::places::right16`. Assumes nothing.
 use mathlib.Core.Path.{refl}
-use borrow.Author.Rules.{rules}
 use native.Mathlib.Omega.{arith}
 use lib.Pow.{shr_le}
 use Rattle.twos_complement.specs.Whole.{shift_right}

@@ -1,5 +1,4 @@
 -- The answers to the goals of `shift::places::sign_changes16`. Assumes nothing.
-use borrow.Author.Rules.{rules}
 use lib.Dec.{lit≤}
 use Rattle.shift.proofs.ShiftLaws.{low-shifted, high-shifted}
 use Rattle.shift.proofs.places.sign_changes16.Goals as goal

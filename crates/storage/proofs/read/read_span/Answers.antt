@@ -1,7 +1,7 @@
 -- The answers to the goals of `storage::read::read_span`. Assumes nothing.
-use Rattle.std.proofs.Common.{◌≡◌, ◌+◌, ◌≤◌, length, set, sym, refl, ap, ◌∙◌, arith, rules}
+use Rattle.std.proofs.Common.{set, sym, refl, ap, ◌∙◌, arith}
 use Rattle.page.proofs.SpanLaws.{kept, taken, read_none, read_step}
-use Rattle.page.specs.Spans.{word_of, read_from}
+use Rattle.page.specs.Spans.{word_of}
 use Rattle.storage.proofs.read.read_span.Goals as goal
 
 pub loop-left-init : goal.loop-left-init

@@ -1,7 +1,6 @@
 -- What the loops keep, and the measures, of `storage::read::read_span`. Assumes nothing.
-use Rattle.std.proofs.Common.{◌≡◌, ◌+◌, ◌≤◌, length, set, sym, refl, ap, ◌∙◌, arith, rules}
-use Rattle.page.proofs.SpanLaws.{kept, taken, read_none, read_step}
-use Rattle.page.specs.Spans.{word_of, read_from}
+use Rattle.std.proofs.Common.{◌≡◌, ◌+◌, ◌≤◌, length}
+use Rattle.page.specs.Spans.{read_from}
 use Rattle.storage.proofs.read.read_span.Given as goal
 
 abbrev pub invariant-loop-left : goal.invariant-loop-left

@@ -2,7 +2,7 @@
 use Rattle.page.proofs.ReachLaws.{located-inside}
 use Rattle.page.proofs.SpanLaws.{got-as}
 use Rattle.page.specs.Spans.{got_at}
-use Rattle.std.proofs.Common.{arith, rules}
+use Rattle.std.proofs.Common.{arith}
 use Rattle.storage.proofs.read.read_word.Goals as goal
 
 pub offset_bounds-memory-p : goal.offset_bounds-memory-p

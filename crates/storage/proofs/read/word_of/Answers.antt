@@ -1,6 +1,5 @@
 -- The answers to the goals of `storage::read::word_of`. Assumes nothing.
 use Rattle.page.specs.Spans.{word_of}
-use Rattle.std.proofs.Common.{rules}
 use Rattle.storage.proofs.read.word_of.Goals as goal
 
 pub returns-in-Word : goal.returns-in-Word

@@ -1,7 +1,7 @@
 -- The answers to the goals of `storage::write::write_span`. Assumes nothing.
-use Rattle.std.proofs.Common.{◌≡◌, ◌+◌, ◌≤◌, length, sym, refl, ◌∙◌, arith, rules}
+use Rattle.std.proofs.Common.{sym, refl, ◌∙◌, arith}
 use Rattle.page.proofs.SpanLaws.{kept, taken, write-none, write_step}
-use Rattle.page.specs.Spans.{written_from, written}
+use Rattle.page.specs.Spans.{written}
 use Rattle.storage.proofs.write.write_span.Goals as goal
 
 pub loop-left-init : goal.loop-left-init

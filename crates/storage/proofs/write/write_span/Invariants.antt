@@ -1,6 +1,5 @@
 -- What the loops keep, and the measures, of `storage::write::write_span`. Assumes nothing.
-use Rattle.std.proofs.Common.{◌≡◌, ◌+◌, ◌≤◌, length, sym, refl, ◌∙◌, arith, rules}
-use Rattle.page.proofs.SpanLaws.{kept, taken, write-none, write_step}
+use Rattle.std.proofs.Common.{◌≡◌, ◌+◌, ◌≤◌, length}
 use Rattle.page.specs.Spans.{written_from, written}
 use Rattle.storage.proofs.write.write_span.Given as goal
 

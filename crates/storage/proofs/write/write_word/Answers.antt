@@ -2,7 +2,7 @@
 use Rattle.page.proofs.ReachLaws.{located-inside}
 use Rattle.page.proofs.SpanLaws.{put_as}
 use Rattle.page.specs.Spans.{put_at}
-use Rattle.std.proofs.Common.{arith, rules}
+use Rattle.std.proofs.Common.{arith}
 use Rattle.storage.proofs.write.write_word.Goals as goal
 
 pub offset_bounds-memory-p : goal.offset_bounds-memory-p

@@ -1,5 +1,5 @@
 -- The answers to the goals of `word::compare::below32`. Assumes nothing.
-use Rattle.std.proofs.Common.{lit≤, rules}
+use Rattle.std.proofs.Common.{lit≤}
 use Rattle.word.proofs.CompareLaws.{turned}
 use Rattle.word.proofs.compare.below32.Goals as goal
 

@@ -1,5 +1,5 @@
 -- The answers to the goals of `word::compare::compare32`. Assumes nothing.
-use Rattle.std.proofs.Common.{sym, ◌∙◌, rules}
+use Rattle.std.proofs.Common.{sym, ◌∙◌}
 use Rattle.word.proofs.CompareLaws.{equal-compared, less-compared, greater-compared}
 use Rattle.word.proofs.compare.compare32.Goals as goal
 

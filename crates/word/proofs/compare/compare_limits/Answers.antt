@@ -1,5 +1,5 @@
 -- The answers to the goals of `word::compare::compare_limits`. Assumes nothing.
-use Rattle.std.proofs.Common.{sym, ◌∙◌, rules}
+use Rattle.std.proofs.Common.{sym, ◌∙◌}
 use Rattle.word.proofs.CompareLaws.{wrong-limits, under-limits, over-limits, within-limits}
 use Rattle.word.proofs.compare.compare_limits.Goals as goal
 

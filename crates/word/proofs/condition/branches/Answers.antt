@@ -1,5 +1,5 @@
 -- The answers to the goals of `word::condition::branches`. Assumes nothing.
-use Rattle.std.proofs.Common.{rules, ne_eqb}
+use Rattle.std.proofs.Common.{ne_eqb}
 use Rattle.word.specs.Condition.{branch_taken}
 use Rattle.word.proofs.condition.branches.Goals as goal
 

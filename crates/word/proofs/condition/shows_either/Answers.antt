@@ -1,5 +1,4 @@
 -- The answers to the goals of `word::condition::shows_either`. Assumes nothing.
-use Rattle.std.proofs.Common.{rules}
 use Rattle.word.proofs.condition.shows_either.Goals as goal
 
 pub returns-then-shows_pattern : goal.returns-then-shows_pattern

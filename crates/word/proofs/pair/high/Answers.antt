@@ -1,5 +1,5 @@
 -- The answers to the goals of `word::pair::high`. Assumes nothing.
-use Rattle.std.proofs.Common.{refl, rules}
+use Rattle.std.proofs.Common.{refl}
 use Rattle.word.specs.Pair.{high_word}
 use Rattle.word.proofs.pair.high.Goals as goal
 

@@ -1,5 +1,5 @@
 -- The answers to the goals of `word::pair::low`. Assumes nothing.
-use Rattle.std.proofs.Common.{refl, rules}
+use Rattle.std.proofs.Common.{refl}
 use Rattle.word.specs.Pair.{low_word}
 use Rattle.word.proofs.pair.low.Goals as goal
 
