@@ -2,12 +2,12 @@
 use Prim.Native.Nat.{ℕ}
 use mathlib.Core.List.{List, [], ◌∷◌}
 use lib.Dec.{T}
-use lib.ListN.{length, replicate}
+use lib.ListN.{replicate}
 use Rattle.choice.proofs.Rows.{Row, some, hold}
 use Rattle.machine.proofs.Opened.{machinery}
 use Rattle.image.proofs.Opened.{images}
 use Rattle.packed.specs.Packed.{marks, marked, mark_at, marks_of, with_marks, layout, unpacked, packed}
-use Rattle.capi.specs.Calls.{Reply, reply, sized, given, loading, running}
+use Rattle.capi.specs.Calls.{reply, sized, given, loading, running}
 
 -- opens the definitions of the calls at once
 unfoldable calls : Unit {0}

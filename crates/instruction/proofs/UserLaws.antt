@@ -28,7 +28,7 @@ use Rattle.machine.specs.declared.Prepared.TheVariants.{Ready, Denied}
 use Rattle.machine.specs.declared.Class.TheVariants.{User}
 use Rattle.machine.specs.State.{key_of, group_of, Processor, joined, processor, with_processor, with_pi, with_sw, with_ic, advanced}
 use Rattle.machine.specs.Machine.{Became, Effect, span_from}
-use Rattle.machine.specs.Instructions.{affect, View, view, permitted, ready_at, redirected, derived, extended, granted, decoded, fetched, prepared, both}
+use Rattle.machine.specs.Instructions.{affect, View, view, permitted, ready_at, redirected, derived, extended, granted, decoded, fetched, prepared}
 use Rattle.machine.specs.Step.{affected, stored, perform, timed_by, timing}
 use Rattle.isa.specs.Fields.{field_a, register}
 use Rattle.isa.specs.Addressing.{in_memory}

@@ -1,6 +1,7 @@
 // One instruction (Scope, "One step", 2 and 3), on a core and the registers lent beside it; key and group are those of its SW. Callers have
 // 512 page registers and 1,024 ports: a run asks for them. What is said here holds whatever the rest of the state is; a timer command is handed back undone.
 #![tactic(auto)]
+
 ghost use Rattle.std.specs.Prelude.{◌≡◌, true, false, List, ℕ, ◌+◌, ◌/◌, ◌≤◌, ◌<◌, eqb, length, get_or};
 ghost use Rattle.page.specs.Pages.{lookup};
 ghost use Rattle.page.specs.Spans.{checked, words_of};

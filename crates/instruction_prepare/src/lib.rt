@@ -2,6 +2,7 @@
 // definition's, of a core and the registers lent beside it; key and group are those of its SW. Callers have 512 page registers:
 // a run asks for them.
 #![tactic(auto)]
+
 ghost use Rattle.std.specs.Prelude.{◌≡◌, true, cond, List, ℕ, ◌+◌, ◌%◌, ◌<◌, eqb, length};
 ghost use Rattle.page.specs.Pages.{lookup};
 ghost use Rattle.page.specs.Spans.{wrapped, got_at};

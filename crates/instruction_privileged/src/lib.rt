@@ -1,6 +1,7 @@
 // The operations that are no user's, XIO, BEX and LST, from their accesses on (Scope, "One step", 2 and 3), on a core and the registers lent
 // beside it, whatever the rest of the state is; key and group are those of its SW. Callers have 512 page registers and 1,024 ports: a run asks for them.
 #![tactic(auto)]
+
 ghost use Rattle.std.specs.Prelude.{◌≡◌, false, List, ℕ, ◌/◌, ◌<◌, length};
 ghost use Rattle.decode.specs.Forms.{operation_of};
 ghost use Rattle.machine.specs.declared.State.{State};

@@ -1,5 +1,6 @@
 // What an instruction comes to: the core after it, whether the choice of an interrupt stays as it was, and a timer command that is still to be done.
 #![tactic(auto)]
+
 ghost use Rattle.std.specs.Prelude.{◌≡◌, false, ℕ, eqb};
 ghost use Rattle.machine.specs.Step.{faulted};
 ghost use Rattle.instruction_retired.specs.Settled.{retired_with};

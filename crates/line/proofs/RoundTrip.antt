@@ -14,8 +14,7 @@ use Rattle.decode.specs.Decode.{line_form, decode_of}
 use Rattle.line_operand.specs.declared.Place.TheVariants.{Second}
 use Rattle.line_operand.specs.Numerals.{before, onward}
 use Rattle.line_operand.specs.Shapes.{covers}
-use Rattle.line_operand.specs.Operands.{tail, reads}
-use Rattle.line_operand.proofs.PlaceLaws.{second}
+use Rattle.line_operand.specs.Operands.{tail}
 use Rattle.line_operand.proofs.RowLaws.{Alike, tail-alike, alike-first, tail-width}
 use Rattle.line_table.specs.Boxes.{box_of, box_named, shapes_of}
 use Rattle.line_table.proofs.BoxLaws.{claimed-sound, claimed-claims, claimed-named}

@@ -1,8 +1,7 @@
 -- Wrong answers of `print` and `read` beside the right one, which the checker computes. Assumes nothing.
-use Prim.Native.Nat.{ℕ}
 use mathlib.Core.List.{List, [], ◌∷◌}
 use lib.Dec.{T}
-use Rattle.choice.proofs.Rows.{Row, one, some, hold}
+use Rattle.choice.proofs.Rows.{Row, some, hold}
 use Rattle.text.specs.Texts.{bytes_of}
 use Rattle.line.specs.Lines.{line_of, read_line, read_number}
 use Rattle.line.proofs.Known.{lines, words_in}

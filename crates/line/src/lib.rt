@@ -1,5 +1,6 @@
 // Mnemonic lines (change request 2): the words of an instruction as a line, and a line as words.
 #![tactic(auto)]
+
 ghost use Rattle.std.specs.Prelude.{◌≡◌};
 ghost use Rattle.line.specs.Lines.{line_of, words_from, read_line, Shows};
 

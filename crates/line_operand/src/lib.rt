@@ -1,5 +1,6 @@
 // Operands of mnemonic lines: their places in an instruction, their shapes, and how they are spelt.
 #![tactic(auto)]
+
 pub mod fields;
 pub mod print;
 pub mod shapes;

@@ -1,6 +1,6 @@
 -- Two wrong answers of each contract that other crates call, beside the right one, which the checker computes. Assumes nothing.
-use Rattle.std.proofs.Common.{ℕ, T, List, [], ◌∷◌}
-use Rattle.choice.proofs.Rows.{Row, one, some, hold}
+use Rattle.std.proofs.Common.{T, List, [], ◌∷◌}
+use Rattle.choice.proofs.Rows.{Row, some, hold}
 use Rattle.text.specs.Texts.{bytes_of, numbered_line}
 use Rattle.line.proofs.Known.{lines}
 use Rattle.line_request.specs.Requests.{printing, words_asked, request_of, refused, print_text, words_text, answer_by, answer_to}

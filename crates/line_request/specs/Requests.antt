@@ -4,7 +4,7 @@ use Rattle.choice.specs.Select.{select}
 use Rattle.text.specs.Texts.{newline, blank, bytes_of, hex, numbered_line, word_of}
 use Rattle.line.specs.declared.Words.{Words}
 use Rattle.line.specs.declared.Words.TheVariants.{One, Two, UnknownMnemonic, BadOperands, OutsideField}
-use Rattle.line.specs.Lines.{line_of, read_line, read_number}
+use Rattle.line.specs.Lines.{line_of, read_line}
 use Rattle.line_request.specs.declared.Request.{Request}
 use Rattle.line_request.specs.declared.Request.TheVariants.{Print, Read, Malformed}
 

@@ -1,5 +1,6 @@
 // The requests of the program `lines` (docs/USING.md) and their answers: two words to print as a line, or a line to read as words.
 #![tactic(auto)]
+
 pub mod answer;
 pub mod input;
 

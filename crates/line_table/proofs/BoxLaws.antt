@@ -8,7 +8,6 @@ use native.Mathlib.Omega.{arith}
 use lib.Dec.{eqb, leb, ltb}
 use lib.ListN.{length}
 use borrow.Author.Tests.{eq-eqb, eqb-true, leb-true, le-leb, ltb-true, not-true}
-use Rattle.choice.specs.Search.{found}
 use Rattle.choice.specs.Table.{among}
 use Rattle.choice.proofs.Rows.{all_of}
 use Rattle.choice.proofs.TestLaws.{both}
@@ -17,7 +16,7 @@ use Rattle.text.specs.Texts.{bytes_of}
 use Rattle.decode.specs.Forms.{length_of}
 use Rattle.decode.specs.Operands.{Z8, Z12}
 use Rattle.decode.specs.Pages.{Field, free, fixed, Line, pages}
-use Rattle.decode.specs.Decode.{within, fits, claims, line_form}
+use Rattle.decode.specs.Decode.{within, fits, line_form}
 use Rattle.decode.proofs.PageLaws.{disjoint, disjoint-claims, pages-disjoint}
 use Rattle.line_operand.specs.declared.Place.{Place}
 use Rattle.line_operand.specs.declared.Place.TheVariants.{Lower, Upper, Base, Top, Second, Nowhere, Byte}

@@ -8,7 +8,7 @@ use native.Mathlib.Nat.{le_of_suc-le-suc, not-suc-le-zero}
 use lib.Dec.{eqb, lit<}
 use lib.ListN.{length, get_or, length-append}
 use borrow.Author.Tests.{eq-eqb, eqb-true, not-true}
-use Rattle.choice.proofs.TestLaws.{split, both, same}
+use Rattle.choice.proofs.TestLaws.{split, both}
 use Rattle.line_operand.specs.Numerals.{lacks}
 use Rattle.line_table.specs.Boxes.{same_text}
 use Rattle.line_table.specs.Entries.{letter, name_in, key_of}

@@ -1,5 +1,6 @@
 // The mnemonics of section 5 as one constant table of entries in rows, found by a first word or by a name; and the parts of an entry.
 #![tactic(auto)]
+
 mod entries;
 pub mod entry;
 pub mod name;

@@ -1,6 +1,7 @@
 // The packed state: a state as 256 words, in the layout of the C interface (specs/Packed.antt, `layout`).
 // 0 to 15 are R0 to R15; a word that no part has is not looked at, and 0 in a packed state.
 #![tactic(auto)]
+
 ghost use Rattle.std.specs.Prelude.{◌≡◌, ◌+◌, ◌/◌, ◌%◌, ◌<◌, ◌≤◌, cond, eqb, length};
 ghost use Rattle.std.proofs.Math.Seq.{paste};
 ghost use Rattle.packed.specs.Packed.{size, marks_of, unpacked, packed};

@@ -1,5 +1,6 @@
 // What the program does between its input and its output: an image is loaded and run, and the text is made.
 #![tactic(auto)]
+
 ghost use Rattle.text.specs.Texts.{Text};
 ghost use Rattle.machine.specs.declared.State.{State};
 ghost use Rattle.machine.specs.Machine.{machine};

@@ -1,5 +1,6 @@
 // The program's text (Scope, "The program"): the report of a run, and a refusal, in a buffer of 256 bytes.
 #![tactic(auto)]
+
 ghost use Rattle.std.specs.Prelude.{◌≡◌, ◌+◌, ◌≤◌, ◌∷◌};
 ghost use Rattle.text.specs.Texts.{blank, hex, Wrote, Text};
 ghost use Rattle.report.specs.Report.{steps_line, named, control_line, registers, registers_line, report_of, refusal_of};

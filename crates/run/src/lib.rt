@@ -1,5 +1,6 @@
 // Runs (Scope, "Questions at the door"): the questions, then exactly as many steps as the budget says.
 #![tactic(auto)]
+
 ghost use Rattle.std.specs.Prelude.{◌≡◌, length};
 ghost use Rattle.machine.specs.declared.State.{State};
 ghost use Rattle.machine.specs.State.{joined, with_processor, with_clock};

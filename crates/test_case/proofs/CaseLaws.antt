@@ -4,7 +4,7 @@ use native.Mathlib.Decide.{dec_le}
 use lib.Seq.{take-length, drop-length}
 use Rattle.machine.specs.declared.State.{State}
 use Rattle.machine.specs.declared.Answer.{Answer}
-use Rattle.machine.specs.Machine.{Machine, machine, Became}
+use Rattle.machine.specs.Machine.{machine, Became}
 use Rattle.machine.specs.Runs.{run_of, number_of, answer_of, steps_of, made, left}
 use Rattle.machine.proofs.MachineLaws.{became-machine}
 use Rattle.isa.specs.Mil1750.{mil1750}

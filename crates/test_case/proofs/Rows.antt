@@ -1,10 +1,10 @@
 -- Known cases and readings, computed (docs/TEST-CASES.md). Assumes nothing.
-use Rattle.std.proofs.Common.{◌≡◌, ℕ, List, [], ◌∷◌, ◌++◌, refl}
+use Rattle.std.proofs.Common.{◌≡◌, [], ◌∷◌, ◌++◌, refl}
 use Rattle.text.specs.Texts.{digit, hex, leading, decimal, numbered_line, digit_of, given, word_of}
 use Rattle.test_case_line.specs.Lines.{size_of, limit_of, entry_of, line_of}
 use Rattle.test_case_line.specs.Texts.{entry_line}
 use Rattle.test_case.specs.Case.{lengths, lending, change_line, changes_to, changes}
-use Rattle.test_case.specs.Session.{Session, Heard, one_more, begun, on_line, next_line, on_end, with_byte, on_byte, said_if, closing}
+use Rattle.test_case.specs.Session.{one_more, begun, on_line, next_line, on_end, with_byte, on_byte}
 
 -- of four words the second and the last have changed: "M 0001 0009", "M 0003 0008"
 changed-words : changes 77 (1 ∷ 2 ∷ 3 ∷ 4 ∷ []) (1 ∷ 9 ∷ 3 ∷ 8 ∷ [])

@@ -1,15 +1,14 @@
 -- Two wrong answers of each contract that other crates call, beside the right one, which the checker computes. Assumes nothing.
-use Rattle.std.proofs.Common.{ℕ, true, false, T, List, [], ◌∷◌, ◌++◌, length, get_or, take}
-use Rattle.choice.specs.Table.{table_of}
+use Rattle.std.proofs.Common.{ℕ, true, false, T, List, [], ◌∷◌, length, get_or, take}
 use Rattle.choice.proofs.Rows.{Row, some, hold, flag}
 use Rattle.machine.proofs.Opened.{machinery}
 use Rattle.reset.specs.Reset.{cycle, reset_pages, reset_machine}
-use Rattle.text.specs.Texts.{digit, hex, leading, decimal, numbered_line, digit_of, given, word_of}
+use Rattle.text.specs.Texts.{leading, decimal, numbered_line, digit_of, given, word_of}
 use Rattle.report.specs.Report.{steps_line, report_of}
 use Rattle.test_case_line.specs.Lines.{size_of, limit_of, entry_of, line_of}
 use Rattle.test_case_line.specs.Texts.{case_line}
 use Rattle.test_case.specs.Case.{fresh, lending, with_duration, changed, entered, lent, rejoined, ran, state_lines, case_text}
-use Rattle.test_case.specs.Session.{Session, Heard, one_more, begun, with_entry, on_run, on_entry, on_line, next_line, on_end, with_byte, on_byte, on_last, said_if, closing}
+use Rattle.test_case.specs.Session.{Session, one_more, begun, with_entry, on_run, on_entry, on_line, next_line, on_end, with_byte, on_byte, on_last, said_if, closing}
 
 -- opens the definitions of readings at once, and those of cases and of texts
 unfoldable readings : Unit {0}

@@ -1,5 +1,6 @@
 // The lines of the program `test_cases` (docs/TEST-CASES.md): an input line, the words that it sets, and the lines of a case's text.
 #![tactic(auto)]
+
 pub mod lines;
 pub mod output;
 pub mod set;

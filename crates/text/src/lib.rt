@@ -1,6 +1,7 @@
 // Text in a buffer of 256 bytes, and numbers as text: put there from a place on, by functions that return the place after it, and read (`read`).
 // Each caller leaves room for what is put.
 #![tactic(auto)]
+
 ghost use Rattle.std.specs.Prelude.{◌≡◌, [], ◌∷◌, ◌+◌, ◌<◌, ◌≤◌, length, set};
 ghost use Rattle.text.specs.Texts.{digit, hex, leading, decimal, numbered_line, Wrote, Text};
 

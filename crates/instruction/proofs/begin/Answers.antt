@@ -8,7 +8,6 @@ use Rattle.instruction_retired.proofs.RetiredLaws.{command-none, unsettled-lasti
 use Rattle.instruction.proofs.UserLaws.{ready-form, ready-first}
 use Rattle.machine.specs.Instructions.{view, carried}
 use Rattle.machine.specs.State.{joined, with_processor}
-use borrow.Author.Rules.{rules}
 use mathlib.Core.Path.{refl, sym, ap, ◌∙◌}
 use Rattle.instruction.proofs.begin.Goals as goal
 

@@ -5,7 +5,6 @@ use Rattle.instruction.proofs.UserLaws.{became-worked, settled-by}
 use Rattle.isa.specs.Mil1750.{mil1750, context_of}
 use Rattle.machine.specs.Instructions.{operated}
 use Rattle.machine.specs.State.{joined, with_processor}
-use borrow.Author.Rules.{rules}
 use mathlib.Core.Path.{refl, ap}
 use Rattle.instruction.proofs.carry_fast.Goals as goal
 

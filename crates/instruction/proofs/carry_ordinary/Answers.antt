@@ -3,7 +3,6 @@ use Rattle.instruction_retired.proofs.ActLaws.{words-read, carried-read, carried
 use Rattle.instruction_retired.proofs.RetiredLaws.{command-none, unsettled-lasting}
 use Rattle.instruction.proofs.UserLaws.{reads-by}
 use Rattle.machine.specs.State.{reset_state, joined, with_processor}
-use borrow.Author.Rules.{rules}
 use mathlib.Core.Path.{refl}
 use Rattle.instruction.proofs.carry_ordinary.Goals as goal
 

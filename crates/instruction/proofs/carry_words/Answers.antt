@@ -2,11 +2,9 @@
 use Rattle.instruction_retired.proofs.ActLaws.{carried-clear, carried-fault, failed}
 use Rattle.instruction_retired.proofs.RetiredLaws.{command-none, unsettled-lasting}
 use Rattle.instruction.proofs.UserLaws.{block-need, became-worked, block-user, settled-by}
-use Rattle.instruction.proofs.carry_words.Reads as reads
 use Rattle.isa.specs.Mil1750.{mil1750, context_of}
 use Rattle.machine.specs.Instructions.{operated}
 use Rattle.machine.specs.State.{joined, with_processor}
-use borrow.Author.Rules.{rules}
 use mathlib.Core.Path.{refl}
 use Rattle.instruction.proofs.carry_words.Goals as goal
 

@@ -5,7 +5,6 @@ use Rattle.instruction.proofs.UserLaws.{prepared-at, prepared-refused, timing-at
 use Rattle.machine.specs.Instructions.{instructed, carried}
 use Rattle.machine.specs.State.{joined, with_processor}
 use Rattle.page.proofs.ReachLaws.{located-inside}
-use borrow.Author.Rules.{rules}
 use mathlib.Core.Path.{refl, sym, ◌∙◌}
 use native.Mathlib.Omega.{arith}
 use Rattle.instruction.proofs.instruct.Goals as goal

@@ -6,7 +6,6 @@ use Rattle.instruction.proofs.UserLaws.{writes-by, few-written, worked-ordinary,
 use Rattle.isa.specs.Mil1750.{mil1750, context_of}
 use Rattle.machine.specs.Instructions.{operated}
 use Rattle.machine.specs.State.{joined, with_processor}
-use borrow.Author.Rules.{rules}
 use mathlib.Core.Path.{refl, ◌∙◌}
 use native.Mathlib.Omega.{arith}
 use Rattle.instruction.proofs.proceed.Goals as goal

@@ -1,6 +1,5 @@
 -- The answers to the goals of `instruction::verify`. Assumes nothing.
 use Rattle.machine.specs.Instructions.{both}
-use borrow.Author.Rules.{rules}
 use mathlib.Core.Path.{refl}
 use Rattle.instruction.proofs.verify.Goals as goal
 

@@ -3,7 +3,6 @@ use Rattle.interrupt_entry.proofs.EntryLaws.{entered_by}
 use Rattle.machine.specs.Entries.{arrived}
 use Rattle.machine.specs.State.{joined, with_processor, with_ic, with_sw, with_mk, with_pi, with_faults, with_enabled, advanced}
 use Rattle.machine.specs.Step.{perform}
-use borrow.Author.Rules.{rules}
 use mathlib.Core.Path.{refl}
 use Rattle.instruction_privileged.proofs.call.Goals as goal
 

@@ -3,7 +3,6 @@ use Rattle.instruction_privileged.proofs.PrivilegedLaws.{timer-became}
 use Rattle.instruction_privileged.proofs.SystemLaws.{xio-carried}
 use Rattle.instruction_retired.proofs.RetiredLaws.{command-none, unsettled-lasting, commanded-lasting}
 use Rattle.machine.specs.State.{joined, with_processor}
-use borrow.Author.Rules.{rules}
 use mathlib.Core.Path.{sym, ◌∙◌}
 use Rattle.instruction_privileged.proofs.command.Goals as goal
 

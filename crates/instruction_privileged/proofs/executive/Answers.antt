@@ -2,7 +2,6 @@
 use Rattle.instruction_privileged.proofs.SystemLaws.{bex-carried}
 use Rattle.instruction_retired.proofs.RetiredLaws.{command-none, unsettled-lasting}
 use Rattle.machine.specs.State.{joined, with_processor}
-use borrow.Author.Rules.{rules}
 use native.Mathlib.Omega.{arith}
 use Rattle.instruction_privileged.proofs.executive.Goals as goal
 

@@ -1,7 +1,6 @@
 -- The answers to the goals of `instruction_privileged::govern`. Assumes nothing.
 use Rattle.instruction_privileged.proofs.PrivilegedLaws.{governed-done, governed-refused}
 use Rattle.machine.specs.State.{joined, with_processor}
-use borrow.Author.Rules.{rules}
 use Rattle.instruction_privileged.proofs.govern.Goals as goal
 
 pub transfer-governed-requires : goal.transfer-governed-requires

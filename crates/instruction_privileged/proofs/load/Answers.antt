@@ -4,7 +4,6 @@ use Rattle.instruction_privileged.proofs.SystemLaws.{lst-carried, lst-denied, ls
 use Rattle.instruction_retired.proofs.ActLaws.{failed}
 use Rattle.instruction_retired.proofs.RetiredLaws.{command-none, unsettled-lasting}
 use Rattle.machine.specs.State.{joined, with_processor}
-use borrow.Author.Rules.{rules}
 use mathlib.Core.Path.{refl}
 use native.Mathlib.Omega.{arith}
 use Rattle.instruction_privileged.proofs.load.Goals as goal

@@ -1,6 +1,5 @@
 -- The answers to the goals of `instruction_retired::deny`. Assumes nothing.
 use Rattle.instruction_retired.specs.Settled.{retired_with}
-use borrow.Author.Rules.{rules}
 use mathlib.Core.Bool.{false}
 use mathlib.Core.Path.{ap, ◌∙◌}
 use Rattle.instruction_retired.proofs.deny.Goals as goal

@@ -1,6 +1,5 @@
 -- The answers to the goals of `line::print`. Assumes nothing.
 use Rattle.line.proofs.CodeLaws.{shows-none, shows-line}
-use borrow.Author.Rules.{rules}
 use Rattle.line.proofs.print.Goals as goal
 
 pub returns-then-entry-eq0 : goal.returns-then-entry-eq0

@@ -1,6 +1,5 @@
 -- The answers to the goals of `line::read`. Assumes nothing.
 use Rattle.line.proofs.CodeLaws.{name-lacks, read_none, read_whole, read_more}
-use borrow.Author.Rules.{rules}
 use lib.Seq.{length-take-le}
 use mathlib.Core.Path.{sym, ◌∙◌}
 use Rattle.line.proofs.read.Goals as goal

@@ -1,6 +1,5 @@
 -- The answers to the goals of `line::words_from`. Assumes nothing.
 use Rattle.line.specs.Lines.{words_from}
-use borrow.Author.Rules.{rules}
 use mathlib.Core.Path.{refl}
 use Rattle.line.proofs.words_from.Goals as goal
 

@@ -1,7 +1,6 @@
 -- The answers to the goals of `line_table::by_name`. Assumes nothing.
 use Prim.Native.Nat.{◌%◌}
 use Rattle.line_table.proofs.EntryLaws.{bpt-entry, passed-round, too_long, not_named, named_here}
-use borrow.Author.Rules.{rules}
 use mathlib.Core.Path.{sym, ap, ◌∙◌}
 use native.Mathlib.Omega.{arith}
 use Rattle.line_table.proofs.by_name.Goals as goal

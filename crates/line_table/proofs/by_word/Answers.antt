@@ -1,6 +1,5 @@
 -- The answers to the goals of `line_table::by_word`. Assumes nothing.
 use Rattle.line_table.proofs.EntryLaws.{under-40, under-4a, by_itself}
-use borrow.Author.Rules.{rules}
 use mathlib.Core.Path.{◌∙◌}
 use native.Mathlib.Omega.{arith}
 use Rattle.line_table.proofs.by_word.Goals as goal

@@ -1,6 +1,5 @@
 -- The answers to the goals of `line_table::byte`. Assumes nothing.
 use Rattle.line_table.proofs.NameLaws.{get_d_any}
-use borrow.Author.Rules.{rules}
 use lib.ListN.{get_or-eq_default}
 use mathlib.Core.Path.{sym}
 use native.Mathlib.Omega.{arith}

@@ -1,6 +1,5 @@
 -- The answers to the goals of `line_table::entry_at`. Assumes nothing.
 use Rattle.line_table.proofs.EntryLaws.{place-entry}
-use borrow.Author.Rules.{rules}
 use Rattle.line_table.proofs.entry_at.Goals as goal
 
 pub returns : goal.returns

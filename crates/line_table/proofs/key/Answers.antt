@@ -1,6 +1,5 @@
 -- The answers to the goals of `line_table::key`. Assumes nothing.
 use Rattle.line_table.specs.Entries.{key_of}
-use borrow.Author.Rules.{rules}
 use mathlib.Core.Path.{refl}
 use Rattle.line_table.proofs.key.Goals as goal
 

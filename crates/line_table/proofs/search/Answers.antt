@@ -1,7 +1,6 @@
 -- The answers to the goals of `line_table::search`. Assumes nothing.
-use Prim.Native.Nat.{◌-◌, ◌%◌, ◌≤◌, ◌*◌}
+use Prim.Native.Nat.{◌%◌}
 use Rattle.line_table.proofs.EntryLaws.{row-entry, passed_none, passed-row}
-use Rattle.line_table.specs.Entries.{Passed}
 use mathlib.Core.Path.{◌≡◌, sym, ap, ◌∙◌}
 use native.Mathlib.Omega.{arith}
 use Rattle.line_table.proofs.search.Goals as goal

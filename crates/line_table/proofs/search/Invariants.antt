@@ -1,9 +1,6 @@
 -- What the loops keep, and the measures, of `line_table::search`. Assumes nothing.
-use Prim.Native.Nat.{◌-◌, ◌%◌, ◌≤◌, ◌*◌}
-use Rattle.line_table.proofs.EntryLaws.{row-entry, passed_none, passed-row}
+use Prim.Native.Nat.{◌-◌, ◌≤◌, ◌*◌}
 use Rattle.line_table.specs.Entries.{Passed}
-use mathlib.Core.Path.{◌≡◌, sym, ap, ◌∙◌}
-use native.Mathlib.Omega.{arith}
 use Rattle.line_table.proofs.search.Given as goal
 
 abbrev pub invariant-loop-r : goal.invariant-loop-r

@@ -1,7 +1,5 @@
 -- The answers to the goals of `line_table::search_row`. Assumes nothing.
-use Prim.Native.Nat.{ℕ, ◌-◌, ◌%◌, ◌≤◌, ◌<◌}
 use Rattle.line_table.proofs.EntryLaws.{row-none, row_on}
-use lib.ListN.{get_or}
 use mathlib.Core.Path.{◌≡◌}
 use native.Mathlib.Omega.{arith}
 use Rattle.line_table.proofs.search_row.Goals as goal

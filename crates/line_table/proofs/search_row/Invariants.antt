@@ -1,9 +1,7 @@
 -- What the loops keep, and the measures, of `line_table::search_row`. Assumes nothing.
 use Prim.Native.Nat.{ℕ, ◌-◌, ◌%◌, ◌≤◌, ◌<◌}
-use Rattle.line_table.proofs.EntryLaws.{row-none, row_on}
 use lib.ListN.{get_or}
 use mathlib.Core.Path.{◌≡◌}
-use native.Mathlib.Omega.{arith}
 use Rattle.line_table.proofs.search_row.Given as goal
 
 abbrev pub invariant-loop-c : goal.invariant-loop-c

@@ -1,7 +1,6 @@
 -- The answers to the goals of `line_table::special`. Assumes nothing.
 use Rattle.line_table.proofs.EntryLaws.{bpt-entry, under-ff}
 use Rattle.line_table.specs.Entries.{entry_of, word_at}
-use borrow.Author.Rules.{rules}
 use mathlib.Core.Path.{sym, ap, ◌∙◌}
 use native.Mathlib.Omega.{arith}
 use Rattle.line_table.proofs.special.Goals as goal

@@ -1,5 +1,4 @@
 -- What the loops keep, and the measures, of `lines::read_all`. Assumes nothing.
-use borrow.Author.Rules.{rules}
 use Rattle.lines.proofs.read_all.Given as goal
 
 abbrev pub invariant-loop-left : goal.invariant-loop-left

@@ -1,6 +1,5 @@
 -- What the loops keep, and the measures, of `lines::take_all`. Assumes nothing.
 use Prim.Native.Nat.{◌-◌}
-use borrow.Author.Rules.{rules}
 use lib.ListN.{length}
 use Rattle.lines.proofs.take_all.Given as goal
 

@@ -1,5 +1,4 @@
 -- The answers to the goals of `lines::write`. Assumes nothing.
-use borrow.Author.Rules.{rules}
 use lib.ListN.{length-take}
 use native.Mathlib.Omega.{arith}
 use Rattle.lines.proofs.write.Goals as goal

@@ -1,7 +1,5 @@
 -- The answers to the goals of `packed::copy`. Assumes nothing.
-use Prim.Native.Nat.{◌-◌}
-use Rattle.packed.proofs.PackLaws.{Copied, copied_none, copied_more, copied_all}
-use lib.ListN.{length}
+use Rattle.packed.proofs.PackLaws.{copied_none, copied_more, copied_all}
 use native.Mathlib.Omega.{arith}
 use Rattle.packed.proofs.copy.Goals as goal
 

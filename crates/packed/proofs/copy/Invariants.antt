@@ -1,8 +1,7 @@
 -- What the loops keep, and the measures, of `packed::copy`. Assumes nothing.
 use Prim.Native.Nat.{◌-◌}
-use Rattle.packed.proofs.PackLaws.{Copied, copied_none, copied_more, copied_all}
+use Rattle.packed.proofs.PackLaws.{Copied}
 use lib.ListN.{length}
-use native.Mathlib.Omega.{arith}
 use Rattle.packed.proofs.copy.Given as goal
 
 abbrev pub invariant-loop-i : goal.invariant-loop-i

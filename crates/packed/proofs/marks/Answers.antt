@@ -1,7 +1,6 @@
 -- The answers to the goals of `packed::marks`. Assumes nothing.
 use Rattle.packed.proofs.PackLaws.{marks-sum}
 use Rattle.packed.specs.Packed.{mark_at}
-use borrow.Author.Rules.{rules}
 use Rattle.packed.proofs.marks.Goals as goal
 
 pub returns : goal.returns

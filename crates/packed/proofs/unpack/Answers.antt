@@ -1,7 +1,6 @@
 -- The answers to the goals of `packed::unpack`. Assumes nothing.
 use Rattle.packed.proofs.PackLaws.{copied-whole, from_parts}
 use Rattle.packed.specs.Packed.{marked}
-use borrow.Author.Rules.{rules}
 use lib.ListN.{length-take}
 use mathlib.Core.Path.{refl, ◌∙◌}
 use native.Mathlib.Omega.{arith}

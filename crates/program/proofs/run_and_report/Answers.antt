@@ -1,7 +1,6 @@
 -- The answers to the goals of `program::run_and_report`. Assumes nothing.
 use Rattle.program.proofs.PrintedLaws.{holds-became}
 use Rattle.program.specs.Printed.{unless, ran_text}
-use borrow.Author.Rules.{rules}
 use borrow.Author.Tests.{eq-eqb, ne_eqb}
 use mathlib.Core.Path.{refl}
 use Rattle.program.proofs.run_and_report.Goals as goal

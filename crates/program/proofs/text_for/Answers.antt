@@ -1,6 +1,5 @@
 -- The answers to the goals of `program::text_for`. Assumes nothing.
 use Rattle.program.proofs.PrintedLaws.{holds-own, holds-lists, too_long, too-long-left, refused, refused-left, accepted, accepted-left, number_is, machine-is, kept}
-use borrow.Author.Rules.{rules}
 use native.Mathlib.Omega.{arith}
 use Rattle.program.proofs.text_for.Goals as goal
 

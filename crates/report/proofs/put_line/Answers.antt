@@ -1,7 +1,6 @@
 -- The answers to the goals of `report::put_line`. Assumes nothing.
 use Rattle.report.specs.Report.{registers_line}
 use Rattle.text.proofs.WroteLaws.{then}
-use borrow.Author.Rules.{rules}
 use native.Mathlib.Omega.{arith}
 use Rattle.report.proofs.put_line.Goals as goal
 

@@ -1,6 +1,5 @@
 -- The answers to the goals of `report::put_register`. Assumes nothing.
 use Rattle.text.proofs.WroteLaws.{then}
-use borrow.Author.Rules.{rules}
 use native.Mathlib.Omega.{arith}
 use Rattle.report.proofs.put_register.Goals as goal
 

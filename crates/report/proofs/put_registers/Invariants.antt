@@ -1,11 +1,8 @@
 -- What the loops keep, and the measures, of `report::put_registers`. Assumes nothing.
 use Prim.Native.Nat.{◌+◌, ◌*◌, ◌-◌, ◌≤◌}
-use Rattle.report.proofs.RegisterLaws.{registers-more, registers-all}
 use Rattle.report.specs.Report.{registers}
-use Rattle.text.proofs.WroteLaws.{wrote_none}
 use Rattle.text.specs.Texts.{Wrote}
 use mathlib.Core.Path.{◌≡◌}
-use native.Mathlib.Omega.{arith}
 use Rattle.report.proofs.put_registers.Given as goal
 
 abbrev pub invariant-loop-n : goal.invariant-loop-n

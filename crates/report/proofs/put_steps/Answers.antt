@@ -1,7 +1,6 @@
 -- The answers to the goals of `report::put_steps`. Assumes nothing.
 use Rattle.report.specs.Report.{steps_line}
 use Rattle.text.proofs.WroteLaws.{then}
-use borrow.Author.Rules.{rules}
 use native.Mathlib.Omega.{arith}
 use Rattle.report.proofs.put_steps.Goals as goal
 

@@ -1,7 +1,6 @@
 -- The answers to the goals of `report::refusal`. Assumes nothing.
 use Rattle.report.specs.Report.{refusal_of}
 use Rattle.text.proofs.WroteLaws.{then, whole}
-use borrow.Author.Rules.{rules}
 use Rattle.report.proofs.refusal.Goals as goal
 
 pub returns : goal.returns

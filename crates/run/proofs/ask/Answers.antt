@@ -1,7 +1,6 @@
 -- The answers to the goals of `run::ask`. Assumes nothing.
 use Rattle.machine.specs.Runs.{admission, asked}
-use borrow.Author.Rules.{rules}
-use borrow.Author.Tests.{eq-eqb, ne_eqb, le-leb, lt-leb, not-true, not-false}
+use borrow.Author.Tests.{eq-eqb, ne_eqb, le-leb, lt-leb}
 use mathlib.Core.Path.{refl}
 use Rattle.run.proofs.ask.Goals as goal
 

@@ -1,6 +1,5 @@
 -- The answers to the goals of `run::number`. Assumes nothing.
 use Rattle.machine.specs.Runs.{number_of}
-use borrow.Author.Rules.{rules}
 use Rattle.run.proofs.number.Goals as goal
 
 pub returns-in-Spent : goal.returns-in-Spent

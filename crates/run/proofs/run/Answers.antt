@@ -5,7 +5,6 @@ use Rattle.machine.proofs.RunLaws.{spent-left, refused-left}
 use Rattle.machine.specs.Machine.{machine}
 use Rattle.machine.specs.Runs.{run_of, number_of, answer_of}
 use Rattle.run.proofs.AskLaws.{admitted}
-use borrow.Author.Rules.{rules}
 use mathlib.Core.Path.{sym, ap, ◌∙◌}
 use Rattle.run.proofs.run.Goals as goal
 

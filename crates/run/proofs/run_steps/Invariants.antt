@@ -1,14 +1,11 @@
 -- What the loops keep, and the measures, of `run::run_steps`. Assumes nothing.
 use Rattle.isa.specs.Mil1750.{mil1750}
-use Rattle.machine.proofs.MachineLaws.{machine-became}
 use Rattle.machine.specs.Machine.{machine}
 use Rattle.machine.specs.Runs.{steps}
 use Rattle.machine.specs.State.{joined, with_processor, with_clock}
 use Rattle.machine.specs.declared.State.{State}
-use Rattle.run_batch.proofs.StepLaws.{steps-none}
 use lib.ListN.{length}
-use mathlib.Core.Path.{◌≡◌, refl, sym, ◌∙◌}
-use native.Mathlib.Omega.{arith}
+use mathlib.Core.Path.{◌≡◌}
 use Rattle.run.proofs.run_steps.Given as goal
 
 abbrev pub invariant-loop-due : goal.invariant-loop-due

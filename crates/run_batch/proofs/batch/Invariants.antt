@@ -1,17 +1,14 @@
 -- What the loops keep, and the measures, of `run_batch::batch`. Assumes nothing.
-use Prim.Native.Nat.{◌+◌, ◌*◌, ◌≤◌, ◌<◌, ◌-◌}
+use Prim.Native.Nat.{◌*◌, ◌≤◌, ◌<◌, ◌-◌}
 use Rattle.clock.specs.Deferred.{longest_of}
 use Rattle.isa.specs.Mil1750.{mil1750}
 use Rattle.machine.specs.Machine.{machine}
 use Rattle.machine.specs.Runs.{steps}
 use Rattle.machine.specs.State.{joined, with_processor, with_clock}
 use Rattle.machine.specs.declared.State.{State}
-use Rattle.run_batch.proofs.StepLaws.{batch-start, batch-end, batch-on, bounded-small, closed-finished, closed-commanded}
 use Rattle.run_batch.specs.Batch.{deferred_at, AllButLast}
-use borrow.Author.Rules.{rules}
 use lib.ListN.{length}
-use mathlib.Core.Path.{◌≡◌, refl, sym, ◌∙◌}
-use native.Mathlib.Omega.{arith}
+use mathlib.Core.Path.{◌≡◌}
 use Rattle.run_batch.proofs.batch.Given as goal
 
 abbrev pub invariant-loop-t : goal.invariant-loop-t

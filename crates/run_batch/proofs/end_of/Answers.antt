@@ -1,5 +1,4 @@
 -- The answers to the goals of `run_batch::end_of`. Assumes nothing.
-use borrow.Author.Rules.{rules}
 use mathlib.Core.Path.{refl}
 use native.Mathlib.Omega.{arith}
 use Rattle.run_batch.proofs.end_of.Goals as goal

@@ -1,6 +1,5 @@
 -- The answers to the goals of `run_batch::finish`. Assumes nothing.
 use Rattle.clock.specs.Deferred.{ticked_by}
-use borrow.Author.Rules.{rules}
 use mathlib.Core.Path.{refl}
 use Rattle.run_batch.proofs.finish.Goals as goal
 

@@ -1,6 +1,5 @@
 -- The answers to the goals of `run_batch::finish_command`. Assumes nothing.
 use Rattle.machine.specs.Step.{ticked}
-use borrow.Author.Rules.{rules}
 use lib.ListN.{get_or}
 use mathlib.Core.Path.{refl, ap, ◌∙◌}
 use native.Mathlib.Omega.{arith}

@@ -2,7 +2,6 @@
 use Rattle.interrupt_entry.proofs.EntryLaws.{entered_by}
 use Rattle.machine.specs.State.{joined, with_processor}
 use Rattle.machine.specs.Step.{perform, begun_from}
-use borrow.Author.Rules.{rules}
 use mathlib.Core.Path.{refl}
 use Rattle.run_batch.proofs.interrupted.Goals as goal
 

@@ -1,19 +1,15 @@
 -- What the loops keep, and the measures, of `run_batch::obey`. Assumes nothing.
 use Prim.Native.Nat.{ℕ, ◌+◌, ◌*◌, ◌≤◌, ◌<◌, ◌-◌}
-use Rattle.clock.specs.Deferred.{after_ticks, longest_of}
+use Rattle.clock.specs.Deferred.{longest_of}
 use Rattle.isa.specs.Mil1750.{mil1750}
 use Rattle.machine.specs.Entries.{chosen}
-use Rattle.machine.specs.Instructions.{view}
-use Rattle.machine.specs.State.{key_of, group_of, Keyed, with_clock}
+use Rattle.machine.specs.State.{Keyed}
 use Rattle.machine.specs.declared.State.{State}
-use Rattle.run_batch.proofs.StepLaws.{going, segment-made, segment-on, sw-released, hold-released, chosen-released, chosen-settled, bounded-step, bounded-small}
+use Rattle.run_batch.proofs.StepLaws.{going}
 use Rattle.run_batch.specs.Batch.{deferred_at, AllButLast}
-use borrow.Author.Rules.{rules}
-use borrow.Author.Tests.{not-false}
 use lib.ListN.{length}
 use mathlib.Core.Bool.{false}
-use mathlib.Core.Path.{◌≡◌, refl, sym, ap, ◌∙◌}
-use native.Mathlib.Omega.{arith}
+use mathlib.Core.Path.{◌≡◌}
 use Rattle.run_batch.proofs.obey.Given as goal
 
 abbrev pub invariant-loop-t : goal.invariant-loop-t

@@ -1,6 +1,5 @@
 -- What the loops keep, and the measures, of `test_cases::take_all`. Assumes nothing.
 use Prim.Native.Nat.{◌-◌}
-use borrow.Author.Rules.{rules}
 use lib.ListN.{length}
 use Rattle.test_cases.proofs.take_all.Given as goal
 

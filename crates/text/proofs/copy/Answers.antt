@@ -1,9 +1,7 @@
 -- The answers to the goals of `text::copy`. Assumes nothing.
-use Prim.Native.Nat.{◌+◌, ◌-◌, ◌≤◌}
 use Rattle.text.proofs.WroteLaws.{wrote_none, wrote_one, wrote-more, wrote-all}
-use Rattle.text.specs.Texts.{Wrote}
-use lib.ListN.{length, take, length-set}
-use mathlib.Core.Path.{◌≡◌, refl}
+use lib.ListN.{length-set}
+use mathlib.Core.Path.{refl}
 use native.Mathlib.Omega.{arith}
 use Rattle.text.proofs.copy.Goals as goal
 

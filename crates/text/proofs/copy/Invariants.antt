@@ -1,10 +1,8 @@
 -- What the loops keep, and the measures, of `text::copy`. Assumes nothing.
 use Prim.Native.Nat.{◌+◌, ◌-◌, ◌≤◌}
-use Rattle.text.proofs.WroteLaws.{wrote_none, wrote_one, wrote-more, wrote-all}
 use Rattle.text.specs.Texts.{Wrote}
-use lib.ListN.{length, take, length-set}
-use mathlib.Core.Path.{◌≡◌, refl}
-use native.Mathlib.Omega.{arith}
+use lib.ListN.{length, take}
+use mathlib.Core.Path.{◌≡◌}
 use Rattle.text.proofs.copy.Given as goal
 
 abbrev pub invariant-loop-n : goal.invariant-loop-n

@@ -1,6 +1,5 @@
 -- The answers to the goals of `text::digit`. Assumes nothing.
 use Rattle.text.specs.Texts.{digit}
-use borrow.Author.Rules.{rules}
 use borrow.Author.Tests.{lt-ltb, le-ltb}
 use mathlib.Core.Path.{refl}
 use Rattle.text.proofs.digit.Goals as goal

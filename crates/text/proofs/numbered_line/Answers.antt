@@ -1,7 +1,6 @@
 -- The answers to the goals of `text::numbered_line`. Assumes nothing.
 use Rattle.text.proofs.WroteLaws.{then, whole}
 use Rattle.text.specs.Texts.{numbered_line}
-use borrow.Author.Rules.{rules}
 use Rattle.text.proofs.numbered_line.Goals as goal
 
 pub returns : goal.returns

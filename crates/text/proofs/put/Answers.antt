@@ -1,6 +1,5 @@
 -- The answers to the goals of `text::put`. Assumes nothing.
 use Rattle.text.proofs.WroteLaws.{wrote_one}
-use borrow.Author.Rules.{rules}
 use mathlib.Core.Path.{refl}
 use native.Mathlib.Omega.{arith}
 use Rattle.text.proofs.put.Goals as goal

@@ -1,7 +1,6 @@
 -- The answers to the goals of `text::put_hex`. Assumes nothing.
 use Rattle.text.proofs.WroteLaws.{then}
 use Rattle.text.specs.Texts.{hex}
-use borrow.Author.Rules.{rules}
 use native.Mathlib.Omega.{arith}
 use Rattle.text.proofs.put_hex.Goals as goal
 

@@ -1,7 +1,6 @@
 -- The answers to the goals of `text::put_leading`. Assumes nothing.
 use Rattle.text.proofs.WroteLaws.{wrote_none}
 use Rattle.text.specs.Texts.{leading}
-use borrow.Author.Rules.{rules}
 use borrow.Author.Tests.{lt-ltb, le-ltb}
 use native.Mathlib.Omega.{arith}
 use Rattle.text.proofs.put_leading.Goals as goal

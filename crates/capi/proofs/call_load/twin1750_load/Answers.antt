@@ -2,7 +2,6 @@
 use Rattle.capi.proofs.CallLaws.{unsized, refused, done}
 use Rattle.capi.specs.Calls.{given, loading}
 use Rattle.image.specs.Image as image
-use borrow.Author.Rules.{rules}
 use mathlib.Core.Path.{ap, ◌∙◌}
 use Rattle.capi.proofs.call_load.twin1750_load.Goals as goal
 

@@ -1,6 +1,5 @@
 -- The answers to the goals of `capi::call_print::twin1750_print`. Assumes nothing.
 use Rattle.capi.proofs.LineCallLaws.{print-done, print-refused}
-use borrow.Author.Rules.{rules}
 use Rattle.capi.proofs.call_print.twin1750_print.Goals as goal
 
 pub returns-in-Length : goal.returns-in-Length

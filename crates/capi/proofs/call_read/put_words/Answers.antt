@@ -1,6 +1,5 @@
 -- The answers to the goals of `capi::call_read::put_words`. Assumes nothing.
 use Rattle.capi.proofs.LineCallLaws.{pair}
-use borrow.Author.Rules.{rules}
 use Rattle.capi.proofs.call_read.put_words.Goals as goal
 
 pub returns : goal.returns

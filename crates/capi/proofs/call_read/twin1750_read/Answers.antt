@@ -1,7 +1,6 @@
 -- The answers to the goals of `capi::call_read::twin1750_read`. Assumes nothing.
 use Rattle.capi.specs.LineCalls.{words_left, count_left}
 use Rattle.line.specs.Lines.{read_number}
-use borrow.Author.Rules.{rules}
 use mathlib.Core.Path.{refl}
 use native.Mathlib.Omega.{arith}
 use Rattle.capi.proofs.call_read.twin1750_read.Goals as goal

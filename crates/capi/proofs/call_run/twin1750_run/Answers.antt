@@ -2,7 +2,6 @@
 use Rattle.capi.proofs.CallLaws.{unsized, refused, done}
 use Rattle.capi.specs.Calls.{given, running}
 use Rattle.machine.specs.Runs.{number_of}
-use borrow.Author.Rules.{rules}
 use mathlib.Core.Path.{ap, ◌∙◌}
 use Rattle.capi.proofs.call_run.twin1750_run.Goals as goal
 

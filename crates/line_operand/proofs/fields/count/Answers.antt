@@ -1,5 +1,4 @@
 -- The answers to the goals of `line_operand::fields::count`. Assumes nothing.
-use borrow.Author.Rules.{rules}
 use mathlib.Core.Path.{refl}
 use native.Mathlib.Omega.{arith}
 use Rattle.line_operand.proofs.fields.count.Goals as goal

@@ -1,6 +1,5 @@
 -- The answers to the goals of `line_operand::fields::field`. Assumes nothing.
 use Rattle.line_operand.specs.Shapes.{field_of}
-use borrow.Author.Rules.{rules}
 use native.Mathlib.Omega.{arith}
 use Rattle.line_operand.proofs.fields.field.Goals as goal
 

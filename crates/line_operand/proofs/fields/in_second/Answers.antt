@@ -1,6 +1,5 @@
 -- The answers to the goals of `line_operand::fields::in_second`. Assumes nothing.
 use Rattle.line_operand.specs.Shapes.{meets}
-use borrow.Author.Rules.{rules}
 use mathlib.Core.Path.{refl}
 use Rattle.line_operand.proofs.fields.in_second.Goals as goal
 

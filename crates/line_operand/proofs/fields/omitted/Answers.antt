@@ -1,6 +1,5 @@
 -- The answers to the goals of `line_operand::fields::omitted`. Assumes nothing.
 use Rattle.line_operand.specs.Operands.{omitted}
-use borrow.Author.Rules.{rules}
 use mathlib.Core.Path.{refl}
 use Rattle.line_operand.proofs.fields.omitted.Goals as goal
 

@@ -1,7 +1,6 @@
 -- The answers to the goals of `line_operand::print::put_field`. Assumes nothing.
 use Rattle.line_operand.specs.Operands.{spell}
 use Rattle.text.proofs.WroteLaws.{wrote_none}
-use borrow.Author.Rules.{rules}
 use native.Mathlib.Omega.{arith}
 use Rattle.line_operand.proofs.print.put_field.Goals as goal
 

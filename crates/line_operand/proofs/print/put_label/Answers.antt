@@ -1,7 +1,6 @@
 -- The answers to the goals of `line_operand::print::put_label`. Assumes nothing.
 use Prim.Native.Nat.{◌-◌}
 use Rattle.line_operand.specs.Operands.{spell}
-use borrow.Author.Rules.{rules}
 use borrow.Author.Tests.{lt-ltb, le-ltb}
 use mathlib.Core.Path.{◌≡◌}
 use native.Mathlib.Omega.{arith}

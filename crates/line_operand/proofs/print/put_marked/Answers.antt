@@ -1,6 +1,5 @@
 -- The answers to the goals of `line_operand::print::put_marked`. Assumes nothing.
 use Rattle.text.proofs.WroteLaws.{then}
-use borrow.Author.Rules.{rules}
 use native.Mathlib.Omega.{arith}
 use Rattle.line_operand.proofs.print.put_marked.Goals as goal
 

@@ -1,7 +1,6 @@
 -- The answers to the goals of `line_operand::print::put_operand`. Assumes nothing.
-use Rattle.line_operand.specs.Operands.{omitted, piece, sep_after}
+use Rattle.line_operand.specs.Operands.{piece, sep_after}
 use Rattle.text.proofs.WroteLaws.{wrote_none, then}
-use borrow.Author.Rules.{rules}
 use mathlib.Core.Path.{refl, sym, ◌∙◌}
 use native.Mathlib.Omega.{arith}
 use Rattle.line_operand.proofs.print.put_operand.Goals as goal

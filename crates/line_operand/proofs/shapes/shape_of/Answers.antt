@@ -1,7 +1,6 @@
 -- The answers to the goals of `line_operand::shapes::shape_of`. Assumes nothing.
 use Rattle.choice.proofs.SelectLaws.{otherwise}
 use Rattle.line_operand.specs.Shapes.{shapes, shape_of}
-use borrow.Author.Rules.{rules}
 use mathlib.Core.List.{[], ◌∷◌}
 use mathlib.Core.Path.{sym, ◌∙◌}
 use Rattle.line_operand.proofs.shapes.shape_of.Goals as goal

@@ -1,6 +1,5 @@
 -- The answers to the goals of `line_parse::cursor::hidden`. Assumes nothing.
 use Rattle.line_operand.specs.Operands.{hidden}
-use borrow.Author.Rules.{rules}
 use mathlib.Core.Path.{refl}
 use Rattle.line_parse.proofs.cursor.hidden.Goals as goal
 

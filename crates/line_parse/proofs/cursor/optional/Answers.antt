@@ -1,6 +1,5 @@
 -- The answers to the goals of `line_parse::cursor::optional`. Assumes nothing.
 use Rattle.line_operand.specs.Operands.{optional}
-use borrow.Author.Rules.{rules}
 use mathlib.Core.Path.{refl}
 use Rattle.line_parse.proofs.cursor.optional.Goals as goal
 

@@ -1,8 +1,6 @@
 -- The answers to the goals of `line_parse::cursor::step`. Assumes nothing.
 use Rattle.line_operand.specs.Operands.{taken}
 use Rattle.line_parse.proofs.ScanLaws.{step_end, step-hidden, step-taken}
-use borrow.Author.Rules.{rules}
-use lib.ListN.{take}
 use mathlib.Core.Path.{refl, sym, ◌∙◌}
 use native.Mathlib.Omega.{arith}
 use Rattle.line_parse.proofs.cursor.step.Goals as goal

@@ -1,7 +1,5 @@
 -- The answers to the goals of `line_parse::number::find`. Assumes nothing.
-use Prim.Native.Nat.{◌-◌}
-use Rattle.line_parse.proofs.ScanLaws.{Sought, sought-start, sought-on, sought-here, sought-end}
-use lib.ListN.{length}
+use Rattle.line_parse.proofs.ScanLaws.{sought-start, sought-on, sought-here, sought-end}
 use native.Mathlib.Omega.{arith}
 use Rattle.line_parse.proofs.number.find.Goals as goal
 

@@ -1,8 +1,7 @@
 -- What the loops keep, and the measures, of `line_parse::number::find`. Assumes nothing.
 use Prim.Native.Nat.{◌-◌}
-use Rattle.line_parse.proofs.ScanLaws.{Sought, sought-start, sought-on, sought-here, sought-end}
+use Rattle.line_parse.proofs.ScanLaws.{Sought}
 use lib.ListN.{length}
-use native.Mathlib.Omega.{arith}
 use Rattle.line_parse.proofs.number.find.Given as goal
 
 abbrev pub invariant-loop-i : goal.invariant-loop-i

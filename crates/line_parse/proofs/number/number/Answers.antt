@@ -1,7 +1,6 @@
 -- The answers to the goals of `line_parse::number::number`. Assumes nothing.
 use Rattle.line_operand.specs.Operands.{inside}
 use Rattle.line_parse.proofs.ScanLaws.{number-unplain, number-bad, number-good}
-use borrow.Author.Rules.{rules}
 use borrow.Author.Tests.{lt-ltb, le-ltb, le-leb, lt-leb}
 use mathlib.Core.Path.{refl, sym, ◌∙◌}
 use native.Mathlib.Omega.{arith}

@@ -1,6 +1,5 @@
 -- The answers to the goals of `line_parse::number::plain`. Assumes nothing.
 use Rattle.line_operand.specs.Numerals.{plain}
-use borrow.Author.Rules.{rules}
 use borrow.Author.Tests.{eq-eqb, ne_eqb}
 use mathlib.Core.Path.{refl}
 use Rattle.line_parse.proofs.number.plain.Goals as goal

@@ -1,8 +1,6 @@
 -- The answers to the goals of `line_parse::number::scan`. Assumes nothing.
-use Prim.Native.Nat.{◌-◌}
-use Rattle.line_parse.proofs.ScanLaws.{Scanning, scan-start, scan-on, scan-bad, scan-end}
+use Rattle.line_parse.proofs.ScanLaws.{scan-start, scan-on, scan-bad, scan-end}
 use borrow.Author.Tests.{le-leb, lt-leb}
-use lib.ListN.{length}
 use mathlib.Core.Path.{refl}
 use native.Mathlib.Omega.{arith}
 use Rattle.line_parse.proofs.number.scan.Goals as goal

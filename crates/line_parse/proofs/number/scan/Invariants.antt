@@ -1,10 +1,7 @@
 -- What the loops keep, and the measures, of `line_parse::number::scan`. Assumes nothing.
 use Prim.Native.Nat.{◌-◌}
-use Rattle.line_parse.proofs.ScanLaws.{Scanning, scan-start, scan-on, scan-bad, scan-end}
-use borrow.Author.Tests.{le-leb, lt-leb}
+use Rattle.line_parse.proofs.ScanLaws.{Scanning}
 use lib.ListN.{length}
-use mathlib.Core.Path.{refl}
-use native.Mathlib.Omega.{arith}
 use Rattle.line_parse.proofs.number.scan.Given as goal
 
 abbrev pub invariant-loop-i : goal.invariant-loop-i

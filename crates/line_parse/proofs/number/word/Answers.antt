@@ -1,6 +1,5 @@
 -- The answers to the goals of `line_parse::number::word`. Assumes nothing.
 use Rattle.line_operand.specs.Operands.{word_in, worded}
-use borrow.Author.Rules.{rules}
 use borrow.Author.Tests.{eq-eqb, ne_eqb, lt-ltb, le-ltb}
 use mathlib.Core.Path.{refl}
 use native.Mathlib.Omega.{arith}

@@ -1,6 +1,5 @@
 -- The answers to the goals of `line_parse::operand::join`. Assumes nothing.
 use Rattle.line_operand.specs.Operands.{joined}
-use borrow.Author.Rules.{rules}
 use mathlib.Core.Path.{refl}
 use native.Mathlib.Omega.{arith}
 use Rattle.line_parse.proofs.operand.join.Goals as goal

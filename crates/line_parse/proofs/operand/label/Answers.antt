@@ -1,7 +1,6 @@
 -- The answers to the goals of `line_parse::operand::label`. Assumes nothing.
 use Prim.Native.Nat.{◌-◌}
 use Rattle.line_operand.specs.Operands.{ranged, negated, labelled}
-use borrow.Author.Rules.{rules}
 use borrow.Author.Tests.{eq-eqb, ne_eqb}
 use lib.ListN.{length, get_or, drop, get_or-eq_default, length-drop}
 use lib.Seq.{take_all}

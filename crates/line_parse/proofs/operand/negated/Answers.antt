@@ -1,7 +1,6 @@
 -- The answers to the goals of `line_parse::operand::negated`. Assumes nothing.
 use Prim.Native.Nat.{◌-◌}
 use Rattle.line_operand.specs.Operands.{negated}
-use borrow.Author.Rules.{rules}
 use borrow.Author.Tests.{eq-eqb, ne_eqb}
 use mathlib.Core.Path.{◌≡◌, refl}
 use native.Mathlib.Omega.{arith}

@@ -1,6 +1,5 @@
 -- The answers to the goals of `line_parse::operand::nonzero`. Assumes nothing.
 use Rattle.line_operand.specs.Operands.{nonzero}
-use borrow.Author.Rules.{rules}
 use borrow.Author.Tests.{eq-eqb, ne_eqb}
 use mathlib.Core.Path.{refl}
 use native.Mathlib.Omega.{arith}

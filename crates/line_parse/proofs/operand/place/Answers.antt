@@ -1,6 +1,5 @@
 -- The answers to the goals of `line_parse::operand::place`. Assumes nothing.
 use Rattle.line_operand.specs.Operands.{placed}
-use borrow.Author.Rules.{rules}
 use mathlib.Core.Path.{refl}
 use native.Mathlib.Omega.{arith}
 use Rattle.line_parse.proofs.operand.place.Goals as goal

@@ -1,5 +1,4 @@
 -- The answers to the goals of `line_parse::operand::scale`. Assumes nothing.
-use borrow.Author.Rules.{rules}
 use native.Mathlib.Omega.{arith}
 use Rattle.line_parse.proofs.operand.scale.Goals as goal
 

@@ -1,6 +1,5 @@
 -- The answers to the goals of `line_parse::operand::take`. Assumes nothing.
 use Rattle.line_operand.specs.Operands.{nonzero, taken_as}
-use borrow.Author.Rules.{rules}
 use mathlib.Core.Path.{refl, ap, ◌∙◌}
 use native.Mathlib.Omega.{arith}
 use Rattle.line_parse.proofs.operand.take.Goals as goal

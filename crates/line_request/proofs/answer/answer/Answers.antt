@@ -1,5 +1,5 @@
 -- The answers to the goals of `line_request::answer::answer`. Assumes nothing.
-use Rattle.std.proofs.Common.{◌-◌, length, drop, sym, ◌∙◌, arith, length-drop, take_all, rules}
+use Rattle.std.proofs.Common.{◌-◌, length, drop, sym, ◌∙◌, arith, length-drop, take_all}
 use Rattle.line_request.proofs.RequestLaws.{read-long}
 use Rattle.line_request.specs.Requests.{answer_by, answer_to}
 use Rattle.text.specs.Texts.{bytes_of}

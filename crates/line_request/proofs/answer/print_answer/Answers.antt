@@ -1,6 +1,5 @@
 -- The answers to the goals of `line_request::answer::print_answer`. Assumes nothing.
 use Rattle.line_request.proofs.RequestLaws.{size_small, print-line, print-none}
-use Rattle.std.proofs.Common.{rules}
 use Rattle.line_request.proofs.answer.print_answer.Goals as goal
 
 pub put-requires : goal.put-requires

@@ -1,6 +1,6 @@
 -- The answers to the goals of `line_request::answer::printing`. Assumes nothing.
 use Rattle.line_request.specs.Requests.{printing}
-use Rattle.std.proofs.Common.{refl, rules, le-ltb, lt-ltb}
+use Rattle.std.proofs.Common.{refl, le-ltb, lt-ltb}
 use Rattle.line_request.proofs.answer.printing.Goals as goal
 
 pub returns-then-v-lt65536 : goal.returns-then-v-lt65536

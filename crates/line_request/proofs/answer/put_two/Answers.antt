@@ -1,7 +1,6 @@
 -- The answers to the goals of `line_request::answer::put_two`. Assumes nothing.
 use Rattle.line_request.specs.Requests.{words_text}
 use Rattle.text.proofs.WroteLaws.{then, whole}
-use Rattle.std.proofs.Common.{rules}
 use Rattle.line_request.proofs.answer.put_two.Goals as goal
 
 pub returns : goal.returns

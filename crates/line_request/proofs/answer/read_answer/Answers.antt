@@ -1,6 +1,5 @@
 -- The answers to the goals of `line_request::answer::read_answer`. Assumes nothing.
 use Rattle.line_request.specs.Requests.{words_text}
-use Rattle.std.proofs.Common.{rules}
 use Rattle.line_request.proofs.answer.read_answer.Goals as goal
 
 pub returns-in-One : goal.returns-in-One

@@ -2,7 +2,7 @@
 use Rattle.choice.proofs.SelectLaws.{otherwise}
 use Rattle.line_request.proofs.RequestLaws.{too_short}
 use Rattle.line_request.specs.Requests.{request_of}
-use Rattle.std.proofs.Common.{[], ◌∷◌, sym, refl, rules, le-ltb, lt-ltb, eq-eqb, ne_eqb}
+use Rattle.std.proofs.Common.{[], ◌∷◌, sym, refl, le-ltb, lt-ltb, eq-eqb, ne_eqb}
 use Rattle.line_request.proofs.answer.request.Goals as goal
 
 pub returns-then-n-gt65536 : goal.returns-then-n-gt65536

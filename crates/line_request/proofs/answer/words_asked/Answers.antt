@@ -1,6 +1,6 @@
 -- The answers to the goals of `line_request::answer::words_asked`. Assumes nothing.
 use Rattle.line_request.specs.Requests.{words_asked}
-use Rattle.std.proofs.Common.{refl, rules, eq-eqb, ne_eqb}
+use Rattle.std.proofs.Common.{refl, eq-eqb, ne_eqb}
 use Rattle.line_request.proofs.answer.words_asked.Goals as goal
 
 pub returns-then-line-ne11 : goal.returns-then-line-ne11

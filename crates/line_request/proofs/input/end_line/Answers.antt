@@ -1,6 +1,6 @@
 -- The answers to the goals of `line_request::input::end_line`. Assumes nothing.
 use Rattle.line_request.proofs.SessionLaws.{line-ended}
-use Rattle.std.proofs.Common.{sym, refl, arith, length-take-le, take_all, rules}
+use Rattle.std.proofs.Common.{sym, refl, arith, length-take-le, take_all}
 use Rattle.line_request.proofs.input.end_line.Goals as goal
 
 pub slice_bounds-answer-end : goal.slice_bounds-answer-end

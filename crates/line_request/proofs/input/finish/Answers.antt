@@ -1,6 +1,5 @@
 -- The answers to the goals of `line_request::input::finish`. Assumes nothing.
 use Rattle.line_request.proofs.SessionLaws.{no-rest, a-rest}
-use Rattle.std.proofs.Common.{rules}
 use Rattle.line_request.proofs.input.finish.Goals as goal
 
 pub returns-then-r-eq0 : goal.returns-then-r-eq0

@@ -1,5 +1,5 @@
 -- The answers to the goals of `line_request::input::keep`. Assumes nothing.
-use Rattle.std.proofs.Common.{refl, add-one, take-suc-set, rules}
+use Rattle.std.proofs.Common.{refl, add-one, take-suc-set}
 use Rattle.line_request.proofs.input.keep.Goals as goal
 
 pub returns : goal.returns

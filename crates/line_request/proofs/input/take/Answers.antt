@@ -1,6 +1,6 @@
 -- The answers to the goals of `line_request::input::take`. Assumes nothing.
 use Rattle.line_request.proofs.SessionLaws.{at-newline, at_byte, at-end}
-use Rattle.std.proofs.Common.{arith, rules}
+use Rattle.std.proofs.Common.{arith}
 use Rattle.line_request.proofs.input.take.Goals as goal
 
 pub returns-then-byte-eq10 : goal.returns-then-byte-eq10

@@ -1,6 +1,5 @@
 -- The answers to the goals of `line_table::entry::slots`. Assumes nothing.
 use Rattle.line_table.specs.Entries.{slots_in}
-use borrow.Author.Rules.{rules}
 use mathlib.Core.Path.{refl}
 use Rattle.line_table.proofs.entry.slots.Goals as goal
 

@@ -1,6 +1,5 @@
 -- The answers to the goals of `line_table::entry::two_words`. Assumes nothing.
 use Rattle.line_operand.specs.Shapes.{covers}
-use borrow.Author.Rules.{rules}
 use mathlib.Core.Path.{refl, sym, ◌∙◌}
 use Rattle.line_table.proofs.entry.two_words.Goals as goal
 

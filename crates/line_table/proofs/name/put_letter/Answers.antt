@@ -1,7 +1,6 @@
 -- The answers to the goals of `line_table::name::put_letter`. Assumes nothing.
 use Rattle.line_table.specs.Entries.{letter}
 use Rattle.text.proofs.WroteLaws.{wrote_none}
-use borrow.Author.Rules.{rules}
 use borrow.Author.Tests.{eq-eqb, ne_eqb}
 use native.Mathlib.Omega.{arith}
 use Rattle.line_table.proofs.name.put_letter.Goals as goal

@@ -1,7 +1,6 @@
 -- The answers to the goals of `line_table::name::put_name`. Assumes nothing.
 use Rattle.line_table.specs.Entries.{name_in}
 use Rattle.text.proofs.WroteLaws.{then}
-use borrow.Author.Rules.{rules}
 use native.Mathlib.Omega.{arith}
 use Rattle.line_table.proofs.name.put_name.Goals as goal
 

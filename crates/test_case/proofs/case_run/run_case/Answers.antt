@@ -2,7 +2,6 @@
 use Rattle.test_case.proofs.CaseLaws.{one_more-is, text-is}
 use Rattle.test_case.specs.Session.{on_run, session_of}
 use Rattle.text.proofs.WroteLaws.{then, whole}
-use Rattle.std.proofs.Common.{rules}
 use Rattle.test_case.proofs.case_run.run_case.Goals as goal
 
 pub returns : goal.returns

@@ -1,6 +1,6 @@
 -- The answers to the goals of `test_case::case_run::run_part`. Assumes nothing.
 use Rattle.test_case.proofs.CaseLaws.{answer-is, ran-is}
-use Rattle.std.proofs.Common.{arith, length-take, rules}
+use Rattle.std.proofs.Common.{arith, length-take}
 use Rattle.test_case.proofs.case_run.run_part.Goals as goal
 
 pub slice_bounds-run-end-2 : goal.slice_bounds-run-end-2

@@ -1,7 +1,7 @@
 -- The answers to the goals of `test_case::enter::enter`. Assumes nothing.
 use Rattle.test_case.specs.Case.{changed, entered}
 use Rattle.test_case.specs.Session.{with_entry, session_of}
-use Rattle.std.proofs.Common.{refl, rules, eq-eqb, ne_eqb}
+use Rattle.std.proofs.Common.{refl, eq-eqb, ne_eqb}
 use Rattle.test_case.proofs.enter.enter.Goals as goal
 
 pub returns-then-kind-eq76 : goal.returns-then-kind-eq76

@@ -1,6 +1,6 @@
 -- The answers to the goals of `test_case::enter::set_duration`. Assumes nothing.
 use Rattle.test_case.specs.Case.{with_duration}
-use Rattle.std.proofs.Common.{refl, rules, eq-eqb, ne_eqb}
+use Rattle.std.proofs.Common.{refl, eq-eqb, ne_eqb}
 use Rattle.test_case.proofs.enter.set_duration.Goals as goal
 
 pub returns-then-number-eq257 : goal.returns-then-number-eq257

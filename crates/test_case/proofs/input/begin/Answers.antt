@@ -1,7 +1,7 @@
 -- The answers to the goals of `test_case::input::begin`. Assumes nothing.
 use Rattle.test_case.proofs.CaseLaws.{fresh-is}
 use Rattle.test_case.specs.Session.{begun, session_of}
-use Rattle.std.proofs.Common.{refl, arith, rules}
+use Rattle.std.proofs.Common.{refl, arith}
 use Rattle.test_case.proofs.input.begin.Goals as goal
 
 pub returns : goal.returns

@@ -2,7 +2,6 @@
 use Rattle.test_case.proofs.CaseLaws.{one_more-is}
 use Rattle.test_case.specs.Session.{closing}
 use Rattle.text.proofs.WroteLaws.{then, whole}
-use Rattle.std.proofs.Common.{rules}
 use Rattle.test_case.proofs.input.close.Goals as goal
 
 pub returns : goal.returns

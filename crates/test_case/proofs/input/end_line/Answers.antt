@@ -1,8 +1,8 @@
 -- The answers to the goals of `test_case::input::end_line`. Assumes nothing.
-use Rattle.test_case.proofs.CaseLaws.{one_more-is, text-is}
+use Rattle.test_case.proofs.CaseLaws.{one_more-is}
 use Rattle.test_case.specs.Session.{on_line, next_line, on_end, session_of}
 use Rattle.text.proofs.WroteLaws.{wrote_none, whole}
-use Rattle.std.proofs.Common.{refl, rules}
+use Rattle.std.proofs.Common.{refl}
 use Rattle.test_case.proofs.input.end_line.Goals as goal
 
 pub returns-in-Remark : goal.returns-in-Remark

@@ -1,8 +1,7 @@
 -- The answers to the goals of `test_case::input::finish`. Assumes nothing.
-use Rattle.test_case.proofs.CaseLaws.{text-is}
 use Rattle.test_case.specs.Session.{on_last, session_of}
 use Rattle.text.proofs.WroteLaws.{wrote_none, whole}
-use Rattle.std.proofs.Common.{refl, rules, eq-eqb, ne_eqb}
+use Rattle.std.proofs.Common.{refl, eq-eqb, ne_eqb}
 use Rattle.test_case.proofs.input.finish.Goals as goal
 
 pub returns-then-r-eq0 : goal.returns-then-r-eq0

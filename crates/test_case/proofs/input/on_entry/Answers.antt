@@ -1,8 +1,7 @@
 -- The answers to the goals of `test_case::input::on_entry`. Assumes nothing.
-use Rattle.test_case.proofs.CaseLaws.{text-is}
 use Rattle.test_case.specs.Session.{on_entry}
 use Rattle.text.proofs.WroteLaws.{wrote_none, whole}
-use Rattle.std.proofs.Common.{rules, eq-eqb, ne_eqb}
+use Rattle.std.proofs.Common.{eq-eqb, ne_eqb}
 use Rattle.test_case.proofs.input.on_entry.Goals as goal
 
 pub returns-then-kind-eq71 : goal.returns-then-kind-eq71

@@ -1,8 +1,7 @@
 -- The answers to the goals of `test_case::input::take`. Assumes nothing.
-use Rattle.test_case.proofs.CaseLaws.{text-is}
 use Rattle.test_case.specs.Session.{with_byte, on_byte, session_of}
 use Rattle.text.proofs.WroteLaws.{wrote_none, whole}
-use Rattle.std.proofs.Common.{refl, rules, le-ltb, lt-ltb, eq-eqb, ne_eqb}
+use Rattle.std.proofs.Common.{refl, le-ltb, lt-ltb, eq-eqb, ne_eqb}
 use Rattle.test_case.proofs.input.take.Goals as goal
 
 pub returns-then-byte-eq10 : goal.returns-then-byte-eq10

@@ -1,6 +1,5 @@
 -- The answers to the goals of `test_case::output::put_all_changes`. Assumes nothing.
 use Rattle.text.proofs.WroteLaws.{then}
-use Rattle.std.proofs.Common.{rules}
 use Rattle.test_case.proofs.output.put_all_changes.Goals as goal
 
 pub returns : goal.returns

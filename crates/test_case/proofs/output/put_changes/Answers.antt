@@ -1,9 +1,8 @@
 -- The answers to the goals of `test_case::output::put_changes`. Assumes nothing.
-use Rattle.std.proofs.Common.{◌+◌, ◌-◌, ◌*◌, ◌≤◌, length, arith}
+use Rattle.std.proofs.Common.{arith}
 use Rattle.test_case.proofs.TextLaws.{changes-same, changes-more, changes-all}
 use Rattle.test_case.specs.Case.{changes_to}
 use Rattle.text.proofs.WroteLaws.{wrote_none}
-use Rattle.text.specs.Texts.{Wrote}
 use Rattle.test_case.proofs.output.put_changes.Goals as goal
 
 pub loop-n-init : goal.loop-n-init

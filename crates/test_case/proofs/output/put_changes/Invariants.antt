@@ -1,8 +1,6 @@
 -- What the loops keep, and the measures, of `test_case::output::put_changes`. Assumes nothing.
-use Rattle.std.proofs.Common.{◌+◌, ◌-◌, ◌*◌, ◌≤◌, length, arith}
-use Rattle.test_case.proofs.TextLaws.{changes-same, changes-more, changes-all}
+use Rattle.std.proofs.Common.{◌+◌, ◌-◌, ◌*◌, ◌≤◌, length}
 use Rattle.test_case.specs.Case.{changes_to}
-use Rattle.text.proofs.WroteLaws.{wrote_none}
 use Rattle.text.specs.Texts.{Wrote}
 use Rattle.test_case.proofs.output.put_changes.Given as goal
 

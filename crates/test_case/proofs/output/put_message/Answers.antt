@@ -1,6 +1,6 @@
 -- The answers to the goals of `test_case::output::put_message`. Assumes nothing.
 use Rattle.test_case.proofs.TextLaws.{added, numbered-short}
-use Rattle.std.proofs.Common.{arith, rules}
+use Rattle.std.proofs.Common.{arith}
 use Rattle.test_case.proofs.output.put_message.Goals as goal
 
 pub add-requires : goal.add-requires

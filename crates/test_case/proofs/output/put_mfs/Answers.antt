@@ -1,7 +1,7 @@
 -- The answers to the goals of `test_case::output::put_mfs`. Assumes nothing.
 use Rattle.test_case.proofs.TextLaws.{added, mfs-short}
 use Rattle.text.proofs.WroteLaws.{wrote_none}
-use Rattle.std.proofs.Common.{arith, rules, eq-eqb, ne_eqb}
+use Rattle.std.proofs.Common.{arith, eq-eqb, ne_eqb}
 use Rattle.test_case.proofs.output.put_mfs.Goals as goal
 
 pub returns-then-state-eq0 : goal.returns-then-state-eq0

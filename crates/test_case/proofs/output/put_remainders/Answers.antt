@@ -1,7 +1,7 @@
 -- The answers to the goals of `test_case::output::put_remainders`. Assumes nothing.
 use Rattle.test_case.proofs.TextLaws.{added, remainder-short}
 use Rattle.text.proofs.WroteLaws.{wrote_none}
-use Rattle.std.proofs.Common.{arith, rules}
+use Rattle.std.proofs.Common.{arith}
 use Rattle.test_case.proofs.output.put_remainders.Goals as goal
 
 pub add-requires : goal.add-requires

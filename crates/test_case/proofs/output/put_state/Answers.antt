@@ -2,7 +2,7 @@
 use Rattle.test_case.proofs.TextLaws.{added, case-short, report-short, time-short}
 use Rattle.test_case.specs.Case.{state_lines}
 use Rattle.text.proofs.WroteLaws.{then}
-use Rattle.std.proofs.Common.{arith, rules}
+use Rattle.std.proofs.Common.{arith}
 use Rattle.test_case.proofs.output.put_state.Goals as goal
 
 pub add-at-requires : goal.add-at-requires

@@ -1,6 +1,5 @@
 -- The answers to the goals of `test_case_line::lines::read`. Assumes nothing.
 use Rattle.test_case_line.specs.Lines.{entry_of, line_of}
-use borrow.Author.Rules.{rules}
 use borrow.Author.Tests.{eq-eqb, ne_eqb, lt-ltb, le-ltb, le-leb, lt-leb}
 use mathlib.Core.Path.{refl}
 use Rattle.test_case_line.proofs.lines.read.Goals as goal

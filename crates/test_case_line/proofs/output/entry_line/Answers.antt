@@ -1,7 +1,6 @@
 -- The answers to the goals of `test_case_line::output::entry_line`. Assumes nothing.
 use Rattle.test_case_line.specs.Texts.{entry_line}
 use Rattle.text.proofs.WroteLaws.{then, whole}
-use borrow.Author.Rules.{rules}
 use Rattle.test_case_line.proofs.output.entry_line.Goals as goal
 
 pub returns : goal.returns

@@ -2,7 +2,6 @@
 use Rattle.test_case_line.specs.Texts.{mfs_line}
 use Rattle.text.proofs.WroteLaws.{then, whole}
 use Rattle.text.specs.Texts.{bytes_of}
-use borrow.Author.Rules.{rules}
 use Rattle.test_case_line.proofs.output.mfs_line.Goals as goal
 
 pub returns : goal.returns

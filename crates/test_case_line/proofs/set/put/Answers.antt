@@ -1,5 +1,4 @@
 -- The answers to the goals of `test_case_line::set::put`. Assumes nothing.
-use borrow.Author.Rules.{rules}
 use lib.Seq.{set_out}
 use mathlib.Core.Path.{refl, sym}
 use Rattle.test_case_line.proofs.set.put.Goals as goal

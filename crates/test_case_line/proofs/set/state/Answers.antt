@@ -1,6 +1,5 @@
 -- The answers to the goals of `test_case_line::set::state`. Assumes nothing.
 use Rattle.test_case_line.specs.Fields.{with_word}
-use borrow.Author.Rules.{rules}
 use mathlib.Core.Path.{refl}
 use Rattle.test_case_line.proofs.set.state.Goals as goal
 

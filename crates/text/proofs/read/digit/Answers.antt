@@ -1,6 +1,5 @@
 -- The answers to the goals of `text::read::digit`. Assumes nothing.
 use Rattle.text.specs.Texts.{digit_of}
-use borrow.Author.Rules.{rules}
 use borrow.Author.Tests.{lt-ltb, le-ltb}
 use mathlib.Core.Path.{refl}
 use native.Mathlib.Omega.{arith}

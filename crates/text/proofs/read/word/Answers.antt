@@ -1,6 +1,5 @@
 -- The answers to the goals of `text::read::word`. Assumes nothing.
 use Rattle.text.specs.Texts.{given, word_of}
-use borrow.Author.Rules.{rules}
 use borrow.Author.Tests.{lt-ltb, le-ltb}
 use mathlib.Core.Path.{refl}
 use native.Mathlib.Omega.{arith}
