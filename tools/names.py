@@ -9,7 +9,7 @@ import re
 import sys
 
 # the words of the pages' own patterns, and what is no Rattle crate
-OTHERS = ('crate', 'simulator', 'std')
+OTHERS = ('crate', 'libc', 'os', 'simulator', 'std')
 # the folders at which a path starts, and what stands for a name in one
 FOLDERS = ('comparison', 'crates', 'docs', 'examples', 'interface', 'simulator', 'tools')
 STAND_INS = ('CRATE', 'LABEL', 'FN')
