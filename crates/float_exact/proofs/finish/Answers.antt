@@ -18,7 +18,7 @@ returns-then-p-t c = c.zero.ensures ∙ zero-given true ∙ ap (given 40) (range
 
 pub returns-then-e-gt255 : goal.returns-then-e-gt255
 unfolding tail
-returns-then-e-gt255 c = c.largest.ensures ∙ ap (given 40) (ranged-over 40 _ _ _ _ c.if-p-t.false c.if-e-gt255.true)
+returns-then-e-gt255 c = c.largest.ensures ∙ ap (given 40) (ranged-over 40 _ _ _ _ c.if-p-t.false (omega arith))
 
 pub overflow_sub-m : goal.overflow_sub-m
 unfolding tail
@@ -26,8 +26,8 @@ overflow_sub-m c = omega (arith, tail-high 40 c.args.q (lit≤ tt) c.requires.0 
 
 pub returns-then-neg : goal.returns-then-neg
 unfolding tail
-returns-then-neg c = c.plain.ensures ∙ ranged-neg 40 _ _ _ _ c.if-p-t.false c.if-e-gt255.false (lit≤ tt) (tail-high 40 c.args.q (lit≤ tt) c.requires.0 (search rules)) c.if-neg.true
+returns-then-neg c = c.plain.ensures ∙ ranged-neg 40 _ _ _ _ c.if-p-t.false (omega arith) (lit≤ tt) (tail-high 40 c.args.q (lit≤ tt) c.requires.0 (search rules)) c.if-neg.true
 
 pub returns : goal.returns
 unfolding tail
-returns c = c.plain-2.ensures ∙ ranged-pos 40 _ _ _ _ c.if-p-t.false c.if-e-gt255.false (lit≤ tt) (tail-high 40 c.args.q (lit≤ tt) c.requires.0 (search rules)) c.if-neg.false
+returns c = c.plain-2.ensures ∙ ranged-pos 40 _ _ _ _ c.if-p-t.false (omega arith) (lit≤ tt) (tail-high 40 c.args.q (lit≤ tt) c.requires.0 (search rules)) c.if-neg.false

@@ -1,4 +1,5 @@
 -- The answers to the goals of `float_mul::multiply40`. Assumes nothing.
+use native.Mathlib.Omega.{arith}
 use borrow.Author.Rules.{rules}
 use mathlib.Core.Path.{refl, ap, ◌∙◌}
 use mathlib.Core.Bool.{true, false}
@@ -12,22 +13,22 @@ use Rattle.float_mul.proofs.ProductLaws.{product-over, product-under, product-ze
 use Rattle.float_mul.proofs.multiply40.Goals as goal
 
 pub returns-then-n-gt383 : goal.returns-then-n-gt383
-returns-then-n-gt383 c = c.largest.ensures ∙ ap (given 40) (product-over 40 _ _ _ _ c.signs_differ-neg.ensures c.if-n-gt383.true)
+returns-then-n-gt383 c = c.largest.ensures ∙ ap (given 40) (product-over 40 _ _ _ _ c.signs_differ-neg.ensures (omega arith))
 
 pub returns-then-n-lt128 : goal.returns-then-n-lt128
-returns-then-n-lt128 c = c.zero.ensures ∙ zero-given true ∙ ap (given 40) (product-under 40 _ _ _ _ c.if-n-gt383.false c.if-n-lt128.true)
+returns-then-n-lt128 c = c.zero.ensures ∙ zero-given true ∙ ap (given 40) (product-under 40 _ _ _ _ (omega arith) c.if-n-lt128.true)
 
 pub returns-then-a-eq0 : goal.returns-then-a-eq0
 returns-then-a-eq0 c =
-    c.zero-nothing.ensures ∙ zero-given false ∙ ap (given 40) (product-zero 40 _ _ _ _ c.if-n-gt383.false c.if-n-lt128.false (rw (magnitude-zero 40 _ c.if-a-eq0.true) (zero-mul _)))
+    c.zero-nothing.ensures ∙ zero-given false ∙ ap (given 40) (product-zero 40 _ _ _ _ (omega arith) c.if-n-lt128.false (rw (magnitude-zero 40 _ c.if-a-eq0.true) (zero-mul _)))
 
 pub returns-then-b-eq0 : goal.returns-then-b-eq0
 returns-then-b-eq0 c =
-    c.zero-nothing.ensures ∙ zero-given false ∙ ap (given 40) (product-zero 40 _ _ _ _ c.if-n-gt383.false c.if-n-lt128.false (rw (magnitude-zero 40 _ c.if-b-eq0.true) (mul-zero _)))
+    c.zero-nothing.ensures ∙ zero-given false ∙ ap (given 40) (product-zero 40 _ _ _ _ (omega arith) c.if-n-lt128.false (rw (magnitude-zero 40 _ c.if-b-eq0.true) (mul-zero _)))
 
 pub returns : goal.returns
 returns c =
     let q = c.product-q.result in
     c.finish.ensures ∙ ap (given 40)
-    (product-done 40 _ _ _ _ c.if-n-gt383.false c.if-n-lt128.false q 147 20 (tail 40 q) c.lead-x.ensures c.lead-y.ensures c.signs_differ-neg.ensures c.product-q.ensures.0
+    (product-done 40 _ _ _ _ (omega arith) c.if-n-lt128.false q 147 20 (tail 40 q) c.lead-x.ensures c.lead-y.ensures c.signs_differ-neg.ensures c.product-q.ensures.0
     refl (lit≤ tt) (tail-low 40 q (lit≤ tt) c.product-q.ensures.1 (search rules)) (tail-high 40 q (lit≤ tt) c.product-q.ensures.1 (search rules)))

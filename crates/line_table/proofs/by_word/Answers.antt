@@ -8,7 +8,7 @@ pub entry_at-requires : goal.entry_at-requires
 entry_at-requires c = omega arith
 
 pub returns-then-op-eq16 : goal.returns-then-op-eq16
-returns-then-op-eq16 c = c.entry_at.ensures ∙ under-40 c.args.w (omega arith) c.if-op-eq16.true
+returns-then-op-eq16 c = c.entry_at.ensures ∙ under-40 c.args.w (omega arith) (omega arith)
 
 pub entry_at-requires-then-op-eq74 : goal.entry_at-requires-then-op-eq74
 entry_at-requires-then-op-eq74 c = omega arith
@@ -26,4 +26,4 @@ pub entry_at-requires-2 : goal.entry_at-requires-2
 entry_at-requires-2 c = omega arith
 
 pub returns : goal.returns
-returns c = c.entry_at-2.ensures ∙ by_itself c.args.w (omega arith) c.if-op-eq16.false c.if-op-eq74.false c.if-op-eq255.false
+returns c = c.entry_at-2.ensures ∙ by_itself c.args.w (omega arith) (λ q. omega arith) c.if-op-eq74.false c.if-op-eq255.false

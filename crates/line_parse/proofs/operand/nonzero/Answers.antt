@@ -7,7 +7,7 @@ use Rattle.line_parse.proofs.operand.nonzero.Goals as goal
 
 pub returns-then-index-eq0 : goal.returns-then-index-eq0
 unfolding nonzero
-returns-then-index-eq0 c = rw (c.in-Value.is, eq-eqb _ _ c.if-index-eq0.true) (refl, omega arith)
+returns-then-index-eq0 c = rw (c.in-Value.is, eq-eqb c.in-Value.index 0 (omega arith)) (refl, omega arith)
 
 pub returns-in-Malformed : goal.returns-in-Malformed
 unfolding nonzero
@@ -19,4 +19,4 @@ returns-in-Outside c = rw c.in-Outside.is (refl, omega arith)
 
 pub returns-else-index-eq0 : goal.returns-else-index-eq0
 unfolding nonzero
-returns-else-index-eq0 c = rw (c.in-Value.is, ne_eqb _ _ c.if-index-eq0.false) (refl, omega arith)
+returns-else-index-eq0 c = rw (c.in-Value.is, ne_eqb c.in-Value.index 0 (λ q. omega arith)) (refl, omega arith)
