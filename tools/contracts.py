@@ -44,9 +44,19 @@ def functions(modules, kind=''):
             for name in re.findall(rf'^\s*{kind}(?:extern "C" )?fn (\w+)', text, flags=re.M)]
 
 
+def methods(modules):
+    """The paths of the methods of each crate that another crate calls as `.name(`."""
+    by_crate = {}
+    for (crate, _), text in modules.items():
+        by_crate.setdefault(crate, set()).update(re.findall(r'\.(\w+)\(', text))
+    own = {(crate, path_of(crate, module, name)): name for (crate, module), text in modules.items()
+           for name in re.findall(r'^ +pub fn (\w+)\((?:&(?:mut )?|mut )?self\b', text, flags=re.M)}
+    return {path for (crate, path), name in own.items() if any(name in used for other, used in by_crate.items() if other != crate)}
+
+
 def called(modules):
-    """The paths into other crates that some crate names, `use` items with braces taken apart."""
-    names = set()
+    """The paths into other crates that some crate names, `use` items with braces taken apart, and the methods that are called there."""
+    names = methods(modules)
     for text in modules.values():
         imported = re.findall(r'^use ([\w:]+);', text, flags=re.M)
         for head, inner in re.findall(r'\b([\w:]+)::\{([^}]*)\}', text):
@@ -54,7 +64,8 @@ def called(modules):
         paths, local = re.findall(r'\b\w+(?:::\w+)+', text), {path.split('::')[-1]: path for path in imported}
         names |= {*imported, *paths}
         names |= {f'{local[head]}::{rest}' for head, _, rest in (path.partition('::') for path in paths) if head in local}
-    return names
+    # a function of a type, `module::Type::name`, goes by its module and its name
+    return names | {re.sub(r'::[A-Z]\w*(?=::\w+$)', '', path) for path in names}
 
 
 def edits():
@@ -134,7 +145,7 @@ def faults_of(name, answers, edited, named, head):
 
 def main(words):
     modules = sources()
-    public, every, names = functions(modules, 'pub '), set(functions(modules)) | set(functions(modules, r'pub(?:\(crate\))? ')), called(modules)
+    public, every, names = functions(modules, 'pub '), set(functions(modules)) | set(functions(modules, r'(?:pub(?:\(crate\))?|final) ')), called(modules)
     found, users, inner, head, wrong = edits(), listed(), listed('What the C calls are made of'), heads(modules), []
     wrong += [fault for path in sorted(glob.glob('crates/*/must-fail/*.edit')) for fault in unfit(path)]
     wrong += [fault for label, (line, folders) in found.items() for fault in [wrong_edit(label, line, folders, every)] if fault]

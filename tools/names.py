@@ -1,7 +1,7 @@
 #!/usr/bin/env python3
 """Checks that what README.md and docs/ name is there: each `crate: name, ..`, `crate/File: name, ..`, `crate::module::name` and path in backquotes.
 
-docs/PORT.md is left out: it names what was there before beside what is there now. Run it in the repository's root. It prints each name that is not there, and ends with status 1 if there is one.
+docs/PORT.md and docs/DESIGN-PASS.md are left out: they name what was there before beside what is there now. Run it in the repository's root. It prints each name that is not there, and ends with status 1 if there is one.
 """
 import glob
 import os
@@ -13,8 +13,8 @@ OTHERS = ('crate', 'libc', 'os', 'simulator', 'std')
 # the folders at which a path starts, and what stands for a name in one
 FOLDERS = ('comparison', 'crates', 'docs', 'examples', 'interface', 'simulator', 'tools')
 STAND_INS = ('CRATE', 'LABEL', 'FN')
-# a page that has names of before
-PORT = 'docs/PORT.md'
+# the pages that have names of before
+BEFORE = ('docs/PORT.md', 'docs/DESIGN-PASS.md')
 # what a check or a build writes is not committed
 MADE = re.compile(r'crates/\w+/out/')
 
@@ -63,7 +63,7 @@ def missing(quoted):
 
 
 def main():
-    wrong = [f'{page}:{number}: `{quoted}`: no {name}' for page in ['README.md'] + sorted(set(glob.glob('docs/*.md')) - {PORT})
+    wrong = [f'{page}:{number}: `{quoted}`: no {name}' for page in ['README.md'] + sorted(set(glob.glob('docs/*.md')) - set(BEFORE))
              for number, line in enumerate(open(page, encoding='utf-8'), 1) for quoted in re.findall(r'`([^`]+)`', line) for name in missing(quoted)]
     print('\n'.join(wrong) or 'every name in README.md and docs/ is there')
     return 1 if wrong else 0

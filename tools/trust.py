@@ -24,7 +24,7 @@ HEAD = re.compile(r' *(?:(?:unfoldable |abbrev )?(?:pub )?([^\s:()]+) :|(?:pub )
 # the reading order: parts, and their files; a crate alone stands for its structs and enums
 ORDER = {
     'Numbers and words': 'choice/Select choice/Table twos_complement/Whole twos_complement/Normal word/Status word/Pair word/Compare word/Condition bits/Bits bits/Bytes '
-    'fixed_add/Fixed fixed_muldiv fixed_muldiv/Divide shift shift/Shift float float/Float float/Words float_add/Add float_exact/Exact float_exact/Steps float_mul/Multiply float_div/Divide '
+    'fixed_add fixed_add/Fixed fixed_muldiv fixed_muldiv/Divide shift shift/Shift float float/Float float/Words float_add/Add float_exact/Exact float_exact/Steps float_mul/Multiply float_div/Divide '
     'float_convert/Convert',
     'Pages': 'page page/Pages page/Spans',
     'Decoding': 'decode/Modes decode/Forms decode/Operands decode/Pages decode/Decode',
@@ -134,7 +134,9 @@ def read_code(file):
         text = text[found.start():].split('\n{')[0]
         head, *clauses = re.split(r'\b(?:requires|ensures)(?: \w+)? \{', text)
         variants = re.findall(r'^ +(\w+)(?=[(,])', head, flags=re.M) if kind == 'enum' else []
-        types = [word for word in re.findall(r'\b[A-Z]\w*', head.replace('"C"', '')) if word not in [name] + variants]
+        # type parameters stand for any type, and name none of the code
+        parameters = re.findall(r'[<,] *(\w+)', (re.findall(r'(?:struct|enum|fn) \w+(<[^>]*>)', head) or [''])[0])
+        types = [word for word in re.findall(r'\b[A-Z]\w*', head.replace('"C"', '')) if word not in [name] + variants + parameters]
         path = name if kind in ('struct', 'enum') else path_of(file.crate, file.module, name)
         file.own[path] = Definition(file, path, dict(lines[start:start + text.count('\n') + 1]), comments, '\n'.join(clauses), types)
 
@@ -169,8 +171,9 @@ class Reach:
 
     def type_of(self, file, word):
         """The struct or enum that a type of the code stands for; None where it is of the kit."""
-        crate = file.types.get(word, file.crate)
-        if crate == 'std':
+        # Option and Result need no import
+        crate = 'std' if word in ('Option', 'Result') else file.types.get(word, file.crate)
+        if crate in ('std', 'arrayvec'):
             self.kit.setdefault(crate, set()).add(word)
             return None
         return self.code[crate, word]

@@ -7,6 +7,7 @@ ghost use Rattle.isa.specs.Words.{register_pair};
 use std::num::{wrapping_add_u16, wrapping_sub_u16};
 
 // Bits 8 to 11.
+#[tactic(auto, unfolding(isa::specs::Fields::field_a))]
 pub fn field_a(w: u16) -> u16
     ensures { (result ≡ field_a w) × (result < 16) }
 {
@@ -14,6 +15,7 @@ pub fn field_a(w: u16) -> u16
 }
 
 // Bits 12 to 15.
+#[tactic(auto, unfolding(isa::specs::Fields::field_b))]
 pub fn field_b(w: u16) -> u16
     ensures { (result ≡ field_b w) × (result < 16) }
 {
@@ -21,6 +23,7 @@ pub fn field_b(w: u16) -> u16
 }
 
 // The base register that bits 6 and 7 name.
+#[tactic(auto, unfolding(isa::specs::Fields::base_register))]
 pub(crate) fn base_of(w: u16) -> u16
     ensures { result ≡ base_register w }
 {
@@ -28,6 +31,7 @@ pub(crate) fn base_of(w: u16) -> u16
 }
 
 // Bits 8 to 15, from 0 to 255.
+#[tactic(auto, unfolding(isa::specs::Fields::displacement))]
 pub(crate) fn displacement_of(w: u16) -> u16
     ensures { result ≡ displacement w }
 {
@@ -35,6 +39,7 @@ pub(crate) fn displacement_of(w: u16) -> u16
 }
 
 // The same from -128 to 127.
+#[tactic(auto, using(std::proofs::lemmas::Bool::Decides::nat_tests), unfolding(isa::specs::Fields::signed_displacement))]
 pub(crate) fn signed_displacement(w: u16) -> u16
     ensures { result ≡ signed_displacement w }
 {
@@ -46,6 +51,7 @@ pub(crate) fn signed_displacement(w: u16) -> u16
 }
 
 // Register n, its number taken modulo 16.
+#[tactic(auto, unfolding(isa::specs::Fields::register))]
 pub fn get(regs: &[u16; 16], n: u16) -> u16
     ensures { result ≡ register regs.now n }
 {
@@ -53,6 +59,7 @@ pub fn get(regs: &[u16; 16], n: u16) -> u16
 }
 
 // Register n gets v.
+#[tactic(auto, unfolding(isa::specs::Fields::with_register))]
 pub fn put(regs: &mut [u16; 16], n: u16, v: u16)
     ensures { regs.new ≡ with_register regs.old n v }
 {
@@ -60,6 +67,7 @@ pub fn put(regs: &mut [u16; 16], n: u16, v: u16)
 }
 
 // The double word of register k and the next. k is a register's number.
+#[tactic(auto, unfolding(isa::specs::Words::register_pair))]
 pub fn pair_at(regs: &[u16; 16], k: u16) -> u32
     requires { k < 16 }
     ensures { result ≡ register_pair regs.now k }
@@ -68,6 +76,7 @@ pub fn pair_at(regs: &[u16; 16], k: u16) -> u32
 }
 
 // How many registers there are from a on to b. Both are fields of four bits.
+#[tactic(auto, unfolding(isa::specs::Fields::registers_from))]
 pub fn registers_from(a: u16, b: u16) -> u16
     requires { (a < 16) × (b < 16) }
     ensures { (result ≡ registers_from a b) × (result ≤ 16) }
@@ -76,6 +85,7 @@ pub fn registers_from(a: u16, b: u16) -> u16
 }
 
 // a plus register x, where x is not 0.
+#[tactic(auto, using(std::proofs::lemmas::Bool::Decides::nat_tests), unfolding(isa::specs::Fields::indexed, page::specs::Spans::wrapped))]
 pub(crate) fn index_by(regs: &[u16; 16], x: u16, a: u16) -> u16
     ensures { result ≡ indexed regs.now x a }
 {
@@ -86,6 +96,7 @@ pub(crate) fn index_by(regs: &[u16; 16], x: u16, a: u16) -> u16
 }
 
 // a less b, modulo 65,536.
+#[tactic(auto, unfolding(page::specs::Spans::wrapped))]
 pub fn less(a: u16, b: u16) -> u16
     ensures { result ≡ wrapped (a + (65536 - b)) }
 {

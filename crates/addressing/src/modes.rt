@@ -47,31 +47,30 @@ pub fn derive(form: u16, regs: &[u16; 16], ic: u16, first: u16, second: u16) -> 
     }
 }
 
-// Whether the operand of a mode is in the instruction.
+// Whether the operand of a mode is in the instruction. A match, here and below: `matches!` makes three tests of it, and 7 % more instructions in `load_operation`.
+#[tactic(auto, using(std::proofs::lemmas::Bool::Decides::nat_tests), unfolding(isa::specs::Addressing::is_immediate))]
 fn immediate(mode: u16) -> bool
     ensures { result ≡ is_immediate mode }
 {
     match mode {
-        mode::ISP => true,
-        mode::ISN => true,
-        mode::IM => true,
-        mode::EXT => true,
+        mode::ISP | mode::ISN | mode::IM | mode::EXT => true,
         _ => false,
     }
 }
 
 // Whether a mode has a base register.
+#[tactic(auto, using(std::proofs::lemmas::Bool::Decides::nat_tests), unfolding(isa::specs::Addressing::is_based))]
 fn based(mode: u16) -> bool
     ensures { result ≡ is_based mode }
 {
     match mode {
-        mode::B => true,
-        mode::BX => true,
+        mode::B | mode::BX => true,
         _ => false,
     }
 }
 
 // Word k of the operand, k at most 2: register RB + k, or x, which was read.
+#[tactic(auto, using(std::proofs::lemmas::Bool::Decides::nat_tests), unfolding(isa::specs::Addressing::operand_word, isa::specs::Addressing::is_register))]
 pub fn operand_word(regs: &[u16; 16], n: Instruction, k: u16, x: u16) -> u16
     requires { k < 3 }
     ensures { result ≡ operand_word regs.now n k x }
@@ -83,6 +82,7 @@ pub fn operand_word(regs: &[u16; 16], n: Instruction, k: u16, x: u16) -> u16
 }
 
 // A single precision operand.
+#[tactic(auto, unfolding(isa::specs::Addressing::operand))]
 pub fn operand_of(regs: &[u16; 16], n: Instruction, x: u16) -> u16
     ensures { result ≡ operand regs.now n x }
 {
@@ -93,6 +93,7 @@ pub fn operand_of(regs: &[u16; 16], n: Instruction, x: u16) -> u16
 }
 
 // A double precision operand.
+#[tactic(auto, unfolding(isa::specs::Addressing::double_operand))]
 pub fn double_operand(regs: &[u16; 16], n: Instruction, x: u16, y: u16) -> u32
     ensures { result ≡ double_operand regs.now n x y }
 {
@@ -100,22 +101,18 @@ pub fn double_operand(regs: &[u16; 16], n: Instruction, x: u16, y: u16) -> u32
 }
 
 // The accumulator of a mode with a base register.
+#[tactic(auto, using(std::proofs::lemmas::Bool::Decides::nat_tests), unfolding(isa::specs::Addressing::base_accumulator))]
 fn base_accumulator(operation: u16) -> u16
     ensures { (result ≡ base_accumulator operation) × (result < 16) }
 {
     match operation {
-        39 => 0,
-        48 => 0,
-        60 => 0,
-        68 => 0,
-        74 => 0,
-        79 => 0,
-        94 => 0,
+        39 | 48 | 60 | 68 | 74 | 79 | 94 => 0,
         _ => 2,
     }
 }
 
 // The number of the accumulator.
+#[tactic(auto, unfolding(isa::specs::Addressing::accumulator))]
 pub fn accumulator_of(n: Instruction) -> u16
     ensures { (result ≡ accumulator n) × (result < 16) }
 {

@@ -1,21 +1,20 @@
 -- The operations on blocks whose words were all found: their accesses are open, and what they leave. Assumes nothing.
+use Rattle.std.proofs.Common.{Result, Ok, Err}
 use Prim.Native.Nat.{ℕ, zero, suc, ◌+◌, ◌-◌, ◌%◌, ◌≤◌, ◌<◌}
+use Rattle.page.specs.declared.Refusal.{Refusal}
 use mathlib.Core.Path.{◌≡◌, refl, sym, ap, ◌∙◌}
-use mathlib.Core.Bool.{Bool, true, false, cond, false≢true}
-use mathlib.Core.List.{List, [], ◌∷◌}
+use mathlib.Core.Bool.{Bool, true, false, cond}
+use mathlib.Core.List.{List, [], ◌∷◌, ◌++◌, append_assoc}
 use native.Mathlib.Omega.{arith}
-use native.Mathlib.Numerals.{add-one, sub-one}
+use native.Mathlib.Numerals.{add-one}
 use native.Mathlib.Nat.{add-suc, suc-add, add-zero, zero-add}
 use lib.Dec.{eqb, ltb}
 use borrow.Author.Tests.{eqb-false, ltb-false}
 use lib.ListN.{get_or, set, take, drop, length, length-drop}
-use lib.Seq.{length-take-le, get_or-take, get_or-drop, ext_get_or}
+use lib.Seq.{drop-drop, sets, sets-eq, drop-cons, length-take-le, get_or-take, get_or-drop, ext_get_or}
 use Rattle.page.specs.declared.Span.{Span}
 use Rattle.page.specs.declared.Access.{Access}
 use Rattle.page.specs.declared.Access.TheVariants.{Read, Write}
-use Rattle.page.specs.declared.Place.{Place}
-use Rattle.page.specs.declared.Place.TheVariants.{At, Refused}
-use Rattle.page.specs.declared.Verdict.TheVariants.{Clear}
 use Rattle.page.specs.Pages.{lookup}
 use Rattle.page.specs.Spans.{wrapped, got_at, word_of, put_at, and_then, passed, checked_from, checked, read_from, words_of, written_from, written}
 use Rattle.page.proofs.SpanLaws.{taken}
@@ -33,9 +32,8 @@ use Rattle.isa.specs.Accesses.{words_read, words_written, at_operand, all_from, 
 use Rattle.isa.specs.Blocks.{rearranged, loaded_all, popped_from, popped_all, moved_word, stored_all, pushed_from, pushed_all}
 use Rattle.isa.specs.Mil1750.{context_of}
 use Rattle.isa.specs.Execute.{executed}
-use Rattle.block_registers.specs.Operation.{Finished, Attempted}
-use Rattle.block_one_page.specs.declared.Extent.{Extent}
-use Rattle.block_one_page.specs.declared.Extent.TheVariants.{From, Apart}
+use Rattle.block_registers.specs.Operation.{Finished}
+use Rattle.std.specs.Prelude.{Option, Some, None}
 use Rattle.block_one_page.specs.Extents.{fitting, extent_of, stored_at}
 use Rattle.block_registers.proofs.BlockLaws.{none-chosen, operand-unwritten}
 
@@ -46,21 +44,10 @@ upwards p j = p + j
 abbrev pub downwards : ℕ → ℕ → ℕ
 downwards p j = p - j
 
--- ---- an attempt, by its mark
-
-module _ (s : Processor) (m g : List ℕ) (n : Instruction) (t : Processor) (w : List ℕ) where
-  pub attempt-done : (b : Bool) → b ≡ true → Attempted b s m g n t w → Finished s m g n t w
-  attempt-done true h a = a
-  attempt-done false h a = absurd (false≢true h)
-
-  pub attempt-left : (b : Bool) → b ≡ false → Attempted b s m g n t w → (t.regs ≡ s.regs) × (w ≡ m)
-  attempt-left true h a = absurd (false≢true (sym h))
-  attempt-left false h a = (ap (λ (x : Processor). x.regs) a.0, a.1)
-
 -- ---- an operation whose accesses are open and whose effect is e
 
 module _ (s : Processor) (m g : List ℕ) (n : Instruction) (from to : Span) (i : reads_of s.regs n ≡ from) (j : writes_of s.regs n ≡ to) where
-  finished : checked (key_of s.core.sw) (group_of s.core.sw) g (length m) from Read ≡ Clear → checked (key_of s.core.sw) (group_of s.core.sw) g (length m) to Write ≡ Clear
+  finished : checked (key_of s.core.sw) (group_of s.core.sw) g (length m) from Read ≡ Ok tt → checked (key_of s.core.sw) (group_of s.core.sw) g (length m) to Write ≡ Ok tt
       → (e : Effect) → executed (context_of s) n (words_of (key_of s.core.sw) (group_of s.core.sw) g (length m) from m) ≡ e
       → (t : Processor) (w : List ℕ) → t ≡ affected s e → w ≡ written (key_of s.core.sw) (group_of s.core.sw) g (length m) to e.words m → Finished s m g n t w
   unfolding both stored
@@ -72,15 +59,15 @@ module _ (s : Processor) (m g : List ℕ) (n : Instruction) (from to : Span) (i 
 -- ---- one word, which was found
 
 module _ (key group : ℕ) (g : List ℕ) (size a q : ℕ) where
-  one-open : (k : Access) → lookup k key group g size a ≡ At q → checked key group g size (span_from a 1) k ≡ Clear
+  one-open : (k : Access) → lookup k key group g size a ≡ Ok q → checked key group g size (span_from a 1) k ≡ Ok tt
   unfolding checked checked_from passed and_then
   one-open k e = rw e refl
 
-  one-read : (m : List ℕ) → lookup Read key group g size a ≡ At q → get_or (words_of key group g size (span_from a 1) m) 0 0 ≡ get_or m q 0
+  one-read : (m : List ℕ) → lookup Read key group g size a ≡ Ok q → get_or (words_of key group g size (span_from a 1) m) 0 0 ≡ get_or m q 0
   unfolding words_of read_from passed got_at word_of
   one-read m e = rw e refl
 
-  one_written : (x : ℕ) (m : List ℕ) → lookup Write key group g size a ≡ At q → written key group g size (span_from a 1) (x ∷ []) m ≡ set m q x
+  one_written : (x : ℕ) (m : List ℕ) → lookup Write key group g size a ≡ Ok q → written key group g size (span_from a 1) (x ∷ []) m ≡ set m q x
   unfolding written written_from passed put_at
   one_written x m e = rw e refl
 
@@ -99,8 +86,8 @@ module _ (s : Processor) (m g : List ℕ) (n : Instruction) (o : operation_of n.
   unfolding executed context_of
   moves ws = rw (o, c) refl
 
-  pub moved_here : (p q : ℕ) → lookup Read (key_of s.core.sw) (group_of s.core.sw) g (length m) (register s.regs (field_b n.first)) ≡ At p
-      → lookup Write (key_of s.core.sw) (group_of s.core.sw) g (length m) (register s.regs (field_a n.first)) ≡ At q
+  pub moved_here : (p q : ℕ) → lookup Read (key_of s.core.sw) (group_of s.core.sw) g (length m) (register s.regs (field_b n.first)) ≡ Ok p
+      → lookup Write (key_of s.core.sw) (group_of s.core.sw) g (length m) (register s.regs (field_a n.first)) ≡ Ok q
       → (t : Processor) (w : List ℕ) → t ≡ affected s (moved_word (context_of s) n (get_or m p 0) (eqb (register s.regs (field_a n.first + 1)) 0)) → w ≡ set m q (get_or m p 0)
       → Finished s m g n t w
   unfolding moved_word rearranged
@@ -130,15 +117,31 @@ popped-alike a xs ys (suc k) i regs h = by (eqb ((a + i) % 16) 15) refl ∙ popp
     by true e = rw e refl
     by false e = rw (e, h i (omega arith) (eqb-false _ _ e)) refl
 
+-- ---- words that follow one another, stored as a whole
+
+stored-sets : (p : ℕ) (buf : List ℕ) (n i : ℕ) (m : List ℕ) → i + n ≤ length buf → stored_at (upwards p) buf n i m ≡ sets m (p + i) (take n (drop i buf))
+unfolding stored_at
+stored-sets p buf zero i m h = refl
+stored-sets p buf (suc n) i m h =
+    let rest = rw add-suc at (stored-sets p buf n (suc i) (set m (p + i) (get_or buf i 0)) (omega arith)) in
+    rw (drop-cons buf i 0 (omega arith)) rest
+
+pub stored-copied : (p : ℕ) (buf : List ℕ) (n : ℕ) (m : List ℕ) → n ≤ length buf → p + n ≤ length m → take p m ++ (take n buf ++ drop n (drop p m)) ≡ stored_at (upwards p) buf n 0 m
+stored-copied p buf n m h l =
+    let k : length (take n buf) ≡ n = length-take-le n buf h in
+    let e : sets m p (take n buf) ≡ (take p m ++ take n buf) ++ drop (p + n) m = rw k at (sets-eq (take n buf) m p (omega (arith, k))) in
+    let w : stored_at (upwards p) buf n 0 m ≡ sets m p (take n buf) = rw add-zero at (stored-sets p buf n 0 m (omega (arith, h))) in
+    rw (w, e, append_assoc, drop-drop) refl
+
 -- ---- words stored where they were found
 
 module _ (key group : ℕ) (g : List ℕ) (size : ℕ) (p : Span) (buf : List ℕ) (f : ℕ → ℕ) where
-  stored-from : (n i a : ℕ) (m : List ℕ) → ((j : ℕ) → j < n → lookup Write key group g size (along p a j) ≡ At (f (i + j))) → i + n ≤ p.hole
+  stored-from : (n i a : ℕ) (m : List ℕ) → ((j : ℕ) → j < n → lookup Write key group g size (along p a j) ≡ Ok (f (i + j))) → i + n ≤ p.hole
       → written_from key group g size p buf n i a m ≡ stored_at f buf n i m
   unfolding written_from stored_at put_at
   stored-from zero i a m h l = refl
   stored-from (suc n) i a m h l =
-      let e : lookup Write key group g size a ≡ At (f i) = rw add-zero at (h 0 (omega arith)) in
+      let e : lookup Write key group g size a ≡ Ok (f i) = rw add-zero at (h 0 (omega arith)) in
       ap (written_from key group g size p buf n (suc i) (wrapped (a + p.stride))) (sym (taken p i m _ _ (λ (y : i ≡ p.hole). omega arith) (ap (λ q. put_at m q (get_or buf i 0)) (sym e))))
       ∙ stored-from n (suc i) (wrapped (a + p.stride)) _ (λ j b. rw (add-suc, ← suc-add) at (h (suc j) (omega arith))) (omega arith)
 
@@ -148,53 +151,49 @@ module _ (key group : ℕ) (g : List ℕ) (size : ℕ) (p : Span) (buf : List �
 
 -- ---- a loop of such stores, step by step: n words are left, the first has the number i
 
-pub stored-none : (f : ℕ → ℕ) (buf : List ℕ) (n i : ℕ) (m : List ℕ) → n ≤ 0 → stored_at f buf n i m ≡ m
+pub stored-step : (f : ℕ → ℕ) (buf : List ℕ) (n k i : ℕ) (m : List ℕ) → n ≡ k + 1 → (v : ℕ) → v ≡ get_or buf i 0 → stored_at f buf n i m ≡ stored_at f buf k (i + 1) (set m (f i) v)
 unfolding stored_at
-stored-none f buf zero i m h = refl
-stored-none f buf (suc n) i m h = absurd (omega arith)
-
-pub stored-step : (f : ℕ → ℕ) (buf : List ℕ) (n i : ℕ) (m : List ℕ) → 0 < n → (v : ℕ) → v ≡ get_or buf i 0 → stored_at f buf n i m ≡ stored_at f buf (n - 1) (i + 1) (set m (f i) v)
-unfolding stored_at
-stored-step f buf zero i m h v e = absurd (omega arith)
-stored-step f buf (suc n) i m h v e = rw (e, sub-one, add-one) refl
+stored-step f buf n k i m h v e =
+    let d : n ≡ suc k = omega arith in
+    rw (d, e, add-one) refl
 
 -- ---- no words at the derived address
 
 module _ (key group : ℕ) (g : List ℕ) (size : ℕ) (n : Instruction) where
-  none_open : (k : Access) → checked key group g size (at_operand n 0) k ≡ Clear
+  none_open : (k : Access) → checked key group g size (at_operand n 0) k ≡ Ok tt
   unfolding at_operand
   none_open k = let e = none-chosen (in_memory (mode_of n.form)) in found-clear key group g size _ k (λ j. j) (λ j l h. absurd (omega (arith, e)))
 
 -- ---- an extent that was found
 
 -- what holds of its first word, if there is one
-abbrev OnExtent : (ℕ → Type 0) → Extent → Type 0
-OnExtent P (From p) = P p
-OnExtent P Apart = Unit {0}
+abbrev OnExtent : (ℕ → Type 0) → Option ℕ → Type 0
+OnExtent P (Some p) = P p
+OnExtent P None = Unit {0}
 
 -- p is the place of the first of count words from the logical address a on, which are all of one page and inside the memory
 abbrev pub ExtentAt : Access → ℕ → ℕ → List ℕ → ℕ → ℕ → ℕ → ℕ → Type 0
-ExtentAt k key group g size a count p = (lookup k key group g size a ≡ At p) × (a % 4096 + count ≤ 4096) × (p + count ≤ size)
+ExtentAt k key group g size a count p = (lookup k key group g size a ≡ Ok p) × (a % 4096 + count ≤ 4096) × (p + count ≤ size)
 
 module _ (k : Access) (key group : ℕ) (g : List ℕ) (size a count : ℕ) where
-  extent-fits : a % 4096 + count ≤ 4096 → (q : Place) → lookup k key group g size a ≡ q → OnExtent (ExtentAt k key group g size a count) (fitting size count q)
+  extent-fits : a % 4096 + count ≤ 4096 → (q : Result ℕ Refusal) → lookup k key group g size a ≡ q → OnExtent (ExtentAt k key group g size a count) (fitting size count q)
   unfolding fitting
-  extent-fits l (At p) e = by (ltb (size - p) count) refl
+  extent-fits l (Ok p) e = by (ltb (size - p) count) refl
     where
-      by : (b : Bool) → ltb (size - p) count ≡ b → OnExtent (ExtentAt k key group g size a count) (cond b Apart (From p))
+      by : (b : Bool) → ltb (size - p) count ≡ b → OnExtent (ExtentAt k key group g size a count) (cond b None (Some p))
       by true h = tt
       by false h = (e, l, omega (arith, ltb-false (size - p) count h, found_inside k key group g size a p e))
-  extent-fits l (Refused b) e = tt
+  extent-fits l (Err b) e = tt
 
   extent-placed : OnExtent (ExtentAt k key group g size a count) (extent_of k key group g size a count)
   unfolding extent_of
   extent-placed = by (ltb 4096 (a % 4096 + count)) refl
     where
-      by : (b : Bool) → ltb 4096 (a % 4096 + count) ≡ b → OnExtent (ExtentAt k key group g size a count) (cond b Apart (fitting size count (lookup k key group g size a)))
+      by : (b : Bool) → ltb 4096 (a % 4096 + count) ≡ b → OnExtent (ExtentAt k key group g size a count) (cond b None (fitting size count (lookup k key group g size a)))
       by true h = tt
       by false h = extent-fits (ltb-false 4096 (a % 4096 + count) h) _ refl
 
-  pub extent-found : (q : Extent) (p : ℕ) → q ≡ extent_of k key group g size a count → q ≡ From p → ExtentAt k key group g size a count p
+  pub extent-found : (q : Option ℕ) (p : ℕ) → q ≡ extent_of k key group g size a count → q ≡ Some p → ExtentAt k key group g size a count p
   extent-found q p e f = rw (← e, f) at extent-placed
 
 field-few : (w : ℕ) → field_a w + 1 ≤ 16
@@ -253,7 +252,7 @@ module _ (s : Processor) (m g : List ℕ) (n : Instruction) where
 
   -- ---- PSHM
 
-  pub pushed-here : operation_of n.form ≡ 54 → (p : ℕ) → lookup Write (key_of s.core.sw) (group_of s.core.sw) g (length m) (wrapped (register s.regs 15 + 65535)) ≡ At p
+  pub pushed-here : operation_of n.form ≡ 54 → (p : ℕ) → lookup Write (key_of s.core.sw) (group_of s.core.sw) g (length m) (wrapped (register s.regs 15 + 65535)) ≡ Ok p
       → registers_from (field_a n.first) (field_b n.first) ≤ wrapped (register s.regs 15 + 65535) % 4096 + 1
       → (t : Processor) (w : List ℕ) → t ≡ affected s (pushed_all (context_of s) n)
       → w ≡ stored_at (downwards p) (pushed_from s.regs (field_b n.first) (registers_from (field_a n.first) (field_b n.first)) 0) (registers_from (field_a n.first) (field_b n.first)) 0 m

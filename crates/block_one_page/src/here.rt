@@ -1,49 +1,34 @@
 // The operations on blocks tried at once: one whose words were all found by a lookup or two is done, any other is left to be done word by word.
-// Callers have 512 page registers; key and group are those of SW.
+// Key and group are those of SW.
 ghost use Rattle.std.specs.Prelude.{◌≡◌, ◌<◌, length, get_or, set};
 ghost use Rattle.decode.specs.Forms.{operation_of};
 ghost use Rattle.machine.specs.State.{Keyed, joined};
 ghost use Rattle.block_registers.specs.Operation.{Attempted};
 
-use crate::Extent;
 use crate::extents::{find_extent, push_extent, store_extent};
 use addressing::fields::{field_a, field_b, get, less, registers_from};
 use block_registers::operation::{load_multiple, move_word, pop_multiple, proceed, push_multiple};
 use machine::{Core, Instruction};
+use page::Access;
 use page::lookup::look_up;
-use page::{Access, Place};
-
-// Whether the operation was done, and the core after it.
-#[derive(Clone, Copy)]
-pub struct Tried {
-    pub done: bool,
-    pub core: Core,
-}
-
-// The word at p goes to q; both are inside.
-fn copy(memory: &mut [u16], p: usize, q: usize)
-    requires { (p < length memory.old) × (q < length memory.old) }
-    ensures { memory.new ≡ set memory.old q (get_or memory.old p 0) }
-{
-    memory[q] = memory[p];
-}
 
 // MOV (5.47) of one word; a count of zero is left.
+#[tactic(auto, using(std::proofs::lemmas::Bool::Decides::nat_tests))]
 fn try_move(
     core: Core,
     key: u16,
     group: u16,
     regs: &mut [u16; 16],
     memory: &mut [u16],
-    pages: &[u16],
+    pages: &[u16; 512],
     n: Instruction,
-) -> Tried
-    requires { (length pages.now ≡ 512) × Keyed core.sw key group × (operation_of n.form ≡ 47) }
-    ensures { Attempted result.done (joined core regs.old) memory.old pages.now n (joined result.core regs.new) memory.new }
+) -> Option<Core>
+    requires { Keyed core.sw key group × (operation_of n.form ≡ 47) }
+    ensures { Attempted (joined core regs.old) memory.old pages.now n result regs.new memory.new }
 {
     let a = field_a(n.first);
     if get(regs, a + 1) == 0 {
-        return Tried { done: false, core };
+        return None;
     }
     let size = memory.len();
     let from = look_up(
@@ -54,18 +39,15 @@ fn try_move(
         size,
         get(regs, field_b(n.first)),
     );
-    let Place::At(p) = from else {
-        return Tried { done: false, core };
+    let Ok(p) = from else {
+        return None;
     };
     let to = look_up(Access::Write, key, group, pages, size, get(regs, a));
-    let Place::At(q) = to else {
-        return Tried { done: false, core };
+    let Ok(q) = to else {
+        return None;
     };
-    copy(memory, p, q);
-    Tried {
-        done: true,
-        core: move_word(core, regs, n),
-    }
+    memory[q] = memory[p];
+    Some(move_word(core, regs, n))
 }
 
 // LM (5.40) from one page.
@@ -75,14 +57,14 @@ fn try_load(
     group: u16,
     regs: &mut [u16; 16],
     memory: &mut [u16],
-    pages: &[u16],
+    pages: &[u16; 512],
     n: Instruction,
-) -> Tried
-    requires { (length pages.now ≡ 512) × Keyed core.sw key group × (operation_of n.form ≡ 40) }
-    ensures { Attempted result.done (joined core regs.old) memory.old pages.now n (joined result.core regs.new) memory.new }
+) -> Option<Core>
+    requires { Keyed core.sw key group × (operation_of n.form ≡ 40) }
+    ensures { Attempted (joined core regs.old) memory.old pages.now n result regs.new memory.new }
 {
     let count = field_a(n.first) + 1;
-    let extent = find_extent(
+    let p = find_extent(
         Access::Read,
         key,
         group,
@@ -90,14 +72,8 @@ fn try_load(
         memory.len(),
         n.address,
         count,
-    );
-    let Extent::From(p) = extent else {
-        return Tried { done: false, core };
-    };
-    Tried {
-        done: true,
-        core: load_multiple(core, regs, n, memory, p),
-    }
+    )?;
+    Some(load_multiple(core, regs, n, memory, p))
 }
 
 // POPM (5.44) from one page.
@@ -107,14 +83,14 @@ fn try_pop(
     group: u16,
     regs: &mut [u16; 16],
     memory: &mut [u16],
-    pages: &[u16],
+    pages: &[u16; 512],
     n: Instruction,
-) -> Tried
-    requires { (length pages.now ≡ 512) × Keyed core.sw key group × (operation_of n.form ≡ 44) }
-    ensures { Attempted result.done (joined core regs.old) memory.old pages.now n (joined result.core regs.new) memory.new }
+) -> Option<Core>
+    requires { Keyed core.sw key group × (operation_of n.form ≡ 44) }
+    ensures { Attempted (joined core regs.old) memory.old pages.now n result regs.new memory.new }
 {
     let count = registers_from(field_a(n.first), field_b(n.first));
-    let extent = find_extent(
+    let p = find_extent(
         Access::Read,
         key,
         group,
@@ -122,14 +98,8 @@ fn try_pop(
         memory.len(),
         get(regs, 15),
         count,
-    );
-    let Extent::From(p) = extent else {
-        return Tried { done: false, core };
-    };
-    Tried {
-        done: true,
-        core: pop_multiple(core, regs, n, memory, p),
-    }
+    )?;
+    Some(pop_multiple(core, regs, n, memory, p))
 }
 
 // STM (5.50) to one page.
@@ -139,14 +109,14 @@ fn try_store(
     group: u16,
     regs: &mut [u16; 16],
     memory: &mut [u16],
-    pages: &[u16],
+    pages: &[u16; 512],
     n: Instruction,
-) -> Tried
-    requires { (length pages.now ≡ 512) × Keyed core.sw key group × (operation_of n.form ≡ 50) }
-    ensures { Attempted result.done (joined core regs.old) memory.old pages.now n (joined result.core regs.new) memory.new }
+) -> Option<Core>
+    requires { Keyed core.sw key group × (operation_of n.form ≡ 50) }
+    ensures { Attempted (joined core regs.old) memory.old pages.now n result regs.new memory.new }
 {
     let count = field_a(n.first) + 1;
-    let extent = find_extent(
+    let p = find_extent(
         Access::Write,
         key,
         group,
@@ -154,45 +124,37 @@ fn try_store(
         memory.len(),
         n.address,
         count,
-    );
-    let Extent::From(p) = extent else {
-        return Tried { done: false, core };
-    };
+    )?;
     store_extent(regs, memory, p, count);
-    Tried {
-        done: true,
-        core: proceed(core, n),
-    }
+    Some(proceed(core, n))
 }
 
 // PSHM (5.54) to one page.
+#[tactic(auto, using(std::proofs::lemmas::Bool::Decides::nat_tests))]
 fn try_push(
     core: Core,
     key: u16,
     group: u16,
     regs: &mut [u16; 16],
     memory: &mut [u16],
-    pages: &[u16],
+    pages: &[u16; 512],
     n: Instruction,
-) -> Tried
-    requires { (length pages.now ≡ 512) × Keyed core.sw key group × (operation_of n.form ≡ 54) }
-    ensures { Attempted result.done (joined core regs.old) memory.old pages.now n (joined result.core regs.new) memory.new }
+) -> Option<Core>
+    requires { Keyed core.sw key group × (operation_of n.form ≡ 54) }
+    ensures { Attempted (joined core regs.old) memory.old pages.now n result regs.new memory.new }
 {
     let b = field_b(n.first);
     let count = registers_from(field_a(n.first), b);
     let top = less(get(regs, 15), 1);
     if top % 4096 + 1 < count {
-        return Tried { done: false, core };
+        return None;
     }
     let place = look_up(Access::Write, key, group, pages, memory.len(), top);
-    let Place::At(p) = place else {
-        return Tried { done: false, core };
+    let Ok(p) = place else {
+        return None;
     };
     push_extent(regs, memory, p, b, count);
-    Tried {
-        done: true,
-        core: push_multiple(core, regs, n),
-    }
+    Some(push_multiple(core, regs, n))
 }
 
 // Any of these operations. XWR, which has no words in memory, and any other is left. Open, for speed, is whether it is done here: where it is, all its
@@ -204,19 +166,19 @@ pub fn try_block(
     group: u16,
     regs: &mut [u16; 16],
     memory: &mut [u16],
-    pages: &[u16],
+    pages: &[u16; 512],
     n: Instruction,
-) -> Tried
-    requires { (length pages.now ≡ 512) × Keyed core.sw key group }
-    ensures { Attempted result.done (joined core regs.old) memory.old pages.now n (joined result.core regs.new) memory.new }
+) -> Option<Core>
+    requires { Keyed core.sw key group }
+    ensures { Attempted (joined core regs.old) memory.old pages.now n result regs.new memory.new }
 {
-    let operation = n.form % 256;
-    match operation {
+    // by the number of its paragraph, as `isa/Execute: executed` goes
+    match n.form % 256 {
         40 => try_load(core, key, group, regs, memory, pages, n),
         44 => try_pop(core, key, group, regs, memory, pages, n),
         47 => try_move(core, key, group, regs, memory, pages, n),
         50 => try_store(core, key, group, regs, memory, pages, n),
         54 => try_push(core, key, group, regs, memory, pages, n),
-        _ => Tried { done: false, core },
+        _ => None,
     }
 }

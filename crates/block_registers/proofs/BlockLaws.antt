@@ -1,5 +1,5 @@
 -- The loops of the operations on blocks by a turn, and stores from two buffers. Assumes nothing.
-use Rattle.std.proofs.Common.{◌≡◌, ℕ, zero, suc, ◌+◌, ◌-◌, ◌%◌, ◌<◌, ◌≤◌, Bool, true, false, cond, eqb, List, length, get_or, take, drop, set, refl, ap, ◌∙◌, subst, add-one, sub-one, arith, drop-cons}
+use Rattle.std.proofs.Common.{◌≡◌, ℕ, zero, suc, ◌+◌, ◌-◌, ◌%◌, ◌<◌, ◌≤◌, Bool, true, false, cond, eqb, List, [], ◌∷◌, length, get_or, drop, set, refl, sym, ap, ◌∙◌, ◌++◌, subst, add-one, sub-one, arith}
 use lib.Bits.{or_zero_r}
 use lib.ListN.{get_or-append}
 use lib.Seq.{sets, sets-eq}
@@ -15,34 +15,30 @@ use Rattle.machine.specs.Machine.{next_of}
 use Rattle.isa.specs.Effects.{Context, effect, nothing, three}
 use Rattle.isa.specs.Blocks.{rearranged, popped_from, moved_word, pushed_word, pushed_from}
 
--- ---- LM: n words are left, the first has the number q and goes to register i
+-- ---- LM: words that do not pass register 15
 
-pub loaded-none : (regs : List ℕ) (i q n : ℕ) (ws : List ℕ) → n ≤ 0 → with_registers regs i (take n (drop q ws)) ≡ regs
-unfolding with_registers
-loaded-none regs i q zero ws h = refl
-loaded-none regs i q (suc n) ws h = absurd (omega arith)
+registers-set : (ws regs : List ℕ) (i : ℕ) → i + length ws ≤ 16 → with_registers regs i ws ≡ sets regs i ws
+unfolding with_registers with_register
+registers-set [] regs i h = refl
+registers-set (w ∷ ws) regs i h =
+    let e : i % 16 ≡ i = omega arith in
+    rw (e, add-one) (registers-set ws (set regs i w) (suc i) (omega arith))
 
-pub loaded-step : (regs : List ℕ) (i q n : ℕ) (ws : List ℕ) → 0 < n → q < length ws → (r : ℕ) → r ≡ q + 1
-    → with_registers regs i (take n (drop q ws)) ≡ with_registers (with_register regs i (get_or ws q 0)) (i + 1) (take (n - 1) (drop r ws))
-unfolding with_registers
-loaded-step regs i q zero ws h l r e = absurd (omega arith)
-loaded-step regs i q (suc n) ws h l r e =
-    let f : suc q ≡ r = omega arith in
-    rw (drop-cons ws q 0 l, sub-one) (ap (λ k. with_registers (with_register regs i (get_or ws q 0)) (i + 1) (take n (drop k ws))) f)
+-- words in the first registers
+pub loaded : (regs ws : List ℕ) (n : ℕ) → length regs ≡ 16 → length ws ≡ n → n ≤ 16 → ws ++ drop n regs ≡ with_registers regs 0 ws
+loaded regs ws n l k h =
+    let e : 0 + length ws ≡ n = omega arith in
+    sym (registers-set ws regs 0 (omega arith) ∙ sets-eq ws regs 0 (omega arith) ∙ rw e refl)
 
 -- ---- POPM: n words are left, the first has the number i
 
-pub popped-none : (a : ℕ) (ws : List ℕ) (n i : ℕ) (regs : List ℕ) → n ≤ 0 → popped_from a ws n i regs ≡ regs
-unfolding popped_from
-popped-none a ws zero i regs h = refl
-popped-none a ws (suc n) i regs h = absurd (omega arith)
-
-pub popped-step : (a : ℕ) (ws : List ℕ) (n i : ℕ) (regs : List ℕ) → 0 < n
+pub popped-step : (a : ℕ) (ws : List ℕ) (n m i : ℕ) (regs : List ℕ) → n ≡ m + 1
     → (x : List ℕ) → x ≡ cond (eqb ((a + i) % 16) 15) regs (with_register regs (a + i) (get_or ws i 0))
-    → popped_from a ws n i regs ≡ popped_from a ws (n - 1) (i + 1) x
+    → popped_from a ws n i regs ≡ popped_from a ws m (i + 1) x
 unfolding popped_from
-popped-step a ws zero i regs h x e = absurd (omega arith)
-popped-step a ws (suc n) i regs h x e = rw (e, sub-one, add-one) refl
+popped-step a ws n m i regs k x e =
+    let f : n ≡ suc m = omega arith in
+    rw (f, e, add-one) refl
 
 -- ---- PSHM: each word by its number
 

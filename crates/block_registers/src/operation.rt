@@ -17,6 +17,7 @@ use machine::{Core, Instruction};
 use status_word::{update, with_cs};
 
 // IC and CS are set, with any registers and words to store.
+#[tactic(auto, unfolding(machine::specs::Step::affected, isa::specs::Blocks::rearranged, isa::specs::Mil1750::context_of))]
 fn settle(core: Core, ic: u16, cs: u16) -> Core
     ensures { (regs after ws : List ℕ) → joined result after ≡ affected (joined core regs) (rearranged (context_of (joined core regs)) after ic cs ws) }
 {
@@ -24,6 +25,7 @@ fn settle(core: Core, ic: u16, cs: u16) -> Core
 }
 
 // On to the next instruction; CS is kept.
+#[tactic(auto, unfolding(isa::specs::Mil1750::context_of))]
 pub fn proceed(core: Core, n: Instruction) -> Core
     ensures { (regs after ws : List ℕ) → joined result after
         ≡ affected (joined core regs) (rearranged (context_of (joined core regs)) after (next_of n) (cs_of core.sw) ws) }
@@ -32,6 +34,7 @@ pub fn proceed(core: Core, n: Instruction) -> Core
 }
 
 // LM (5.40) of the words from word number p on, which there are.
+#[tactic(auto, unfolding(isa::specs::Blocks::loaded_all, isa::specs::Mil1750::context_of))]
 pub fn load_multiple(
     core: Core,
     regs: &mut [u16; 16],
@@ -47,6 +50,7 @@ pub fn load_multiple(
 }
 
 // POPM (5.44) of the words from word number p on, which there are.
+#[tactic(auto, unfolding(isa::specs::Blocks::popped_all, isa::specs::Mil1750::context_of))]
 pub fn pop_multiple(
     core: Core,
     regs: &mut [u16; 16],
@@ -62,6 +66,7 @@ pub fn pop_multiple(
 }
 
 // MOV (5.47): IC stays while the count is then not zero.
+#[tactic(auto, using(std::proofs::lemmas::Bool::Decides::nat_tests), unfolding(isa::specs::Blocks::moved_word, isa::specs::Mil1750::context_of))]
 pub fn move_word(core: Core, regs: &mut [u16; 16], n: Instruction) -> Core
     ensures { (x : ℕ) → joined result regs.new ≡ affected (joined core regs.old)
         (moved_word (context_of (joined core regs.old)) n x (register regs.old (field_a n.first + 1) == 0)) }
@@ -78,6 +83,7 @@ pub fn move_word(core: Core, regs: &mut [u16; 16], n: Instruction) -> Core
 }
 
 // PSHM (5.54).
+#[tactic(auto, unfolding(isa::specs::Blocks::pushed_all, isa::specs::Mil1750::context_of))]
 pub fn push_multiple(core: Core, regs: &mut [u16; 16], n: Instruction) -> Core
     ensures { joined result regs.new ≡ affected (joined core regs.old) (pushed_all (context_of (joined core regs.old)) n) }
 {
@@ -86,6 +92,7 @@ pub fn push_multiple(core: Core, regs: &mut [u16; 16], n: Instruction) -> Core
 }
 
 // XWR (5.90).
+#[tactic(auto, unfolding(isa::specs::Blocks::exchanged_words, isa::specs::Mil1750::context_of))]
 fn exchange_words(core: Core, regs: &mut [u16; 16], n: Instruction) -> Core
     ensures { joined result regs.new ≡ affected (joined core regs.old) (exchanged_words (context_of (joined core regs.old)) n) }
 {
@@ -93,13 +100,14 @@ fn exchange_words(core: Core, regs: &mut [u16; 16], n: Instruction) -> Core
     settle(core, effect::following(n), cs)
 }
 
-// Any of the operations. Its caller has found it to be one, and its buffer has sixteen words.
+// Any of the operations. Its caller has found it to be one.
+#[tactic(auto, unfolding(isa::specs::Fields::field_a, isa::specs::Fields::registers_from, isa::specs::Execute::executed, isa::specs::Mil1750::context_of, isa::specs::Blocks::stored_all, crate::specs::Operation::is_block))]
 pub fn rearrange(core: Core, regs: &mut [u16; 16], n: Instruction, buf: &[u16; 16]) -> Core
-    requires { (is_block (operation_of n.form) ≡ true) × (length buf.now ≡ 16) }
+    requires { is_block (operation_of n.form) ≡ true }
     ensures { joined result regs.new ≡ affected (joined core regs.old) (executed (context_of (joined core regs.old)) n buf.now) }
 {
-    let operation = n.form % 256;
-    match operation {
+    // by the number of its paragraph, as `isa/Execute: executed` goes
+    match n.form % 256 {
         40 => load_multiple(core, regs, n, buf, 0),
         44 => pop_multiple(core, regs, n, buf, 0),
         47 => move_word(core, regs, n),

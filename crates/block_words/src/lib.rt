@@ -1,4 +1,4 @@
-// The operations on several registers or words at once (5.40, 5.44, 5.47, 5.50, 5.54, 5.90). Callers have 512 page registers.
+// The operations on several registers or words at once (5.40, 5.44, 5.47, 5.50, 5.54, 5.90).
 #![tactic(auto)]
 
 ghost use Rattle.std.specs.Prelude.{◌≡◌, true, ◌≤◌, length};
@@ -23,11 +23,11 @@ pub fn block(
     core: Core,
     regs: &mut [u16; 16],
     memory: &mut [u16],
-    pages: &[u16],
+    pages: &[u16; 512],
     n: Instruction,
     from: Span,
 ) -> Core
-    requires { (length pages.now ≡ 512) × (is_block (operation_of n.form) ≡ true) × (from ≡ reads_of regs.old n) × (from.count ≤ 16) }
+    requires { (is_block (operation_of n.form) ≡ true) × (from ≡ reads_of regs.old n) × (from.count ≤ 16) }
     ensures { Worked (joined core regs.old) memory.old pages.now n
         (executed (context_of (joined core regs.old)) n
         (words_of (key_of core.sw) (group_of core.sw) pages.now (length memory.old) (reads_of regs.old n) memory.old))

@@ -8,8 +8,9 @@ use lib.ListN.{length}
 use borrow.Author.Tests.{eq-eqb, ne_eqb}
 use Rattle.machine.specs.declared.State.{State}
 use Rattle.machine.specs.Machine.{Machine, Became}
-use Rattle.machine.specs.Runs.{run_of}
-use Rattle.machine.proofs.RunLaws.{refused-left}
+use Rattle.std.specs.Prelude.{Ok, Err, is_ok}
+use Rattle.machine.specs.Runs.{Run, Answer, run_of, number_of, answer_of, left}
+use Rattle.machine.proofs.RunLaws.{denied-left}
 use Rattle.isa.specs.Mil1750.{mil1750}
 use Rattle.image.specs.Image as image
 use Rattle.packed.specs.Packed.{size, packed}
@@ -46,13 +47,23 @@ module _ (w : List ℕ) (x y : Machine) (k : ℕ) (same : (k ≡ 0 → ⊥) → 
       record { answer-is = refl; words-is = rw (ne_eqb _ _ h) refl; memory-is = ap (λ z. z.memory) e; pages-is = ap (λ z. z.pages) e; ports-is = ap (λ z. z.ports) e }
   keeps false h = record { answer-is = refl; words-is = refl; memory-is = refl; pages-is = refl; ports-is = refl }
 
+-- after a refusal there is the machine that was given
+unaccepted : (a : image.Answer) (y x : Machine) → (image.number_of a ≡ 0 → ⊥) → cond (is_ok a) y x ≡ x
+unaccepted (Ok u) y x h = absurd (h refl)
+unaccepted (Err e) y x h = refl
+
+unmade : (x : Machine) (r : Run) (a : Answer) → answer_of x r ≡ a → (number_of a ≡ 0 → ⊥) → left mil1750 x r ≡ x
+unfolding number_of
+unmade x r (Ok u) e h = absurd (h refl)
+unmade x r (Err w) e h = denied-left mil1750 x r w e
+
 module _ (w memory pages ports : List ℕ) where
   pub loading-keeps : (b : List ℕ) → ((loading w memory pages ports b).answer ≡ 0 → ⊥)
       → Replied (loading w memory pages ports b) (loading w memory pages ports b).answer w memory pages ports
   unfolding loading given sized image.after_loading
-  loading-keeps b = keeps w _ _ _ (λ h. rw (ne_eqb _ _ h) refl) (eqb (length w) size)
+  loading-keeps b = keeps w _ _ _ (unaccepted _ _ _) (eqb (length w) size)
 
   pub running-keeps : (budget : ℕ) (d : List ℕ) → ((running w memory pages ports budget d).answer ≡ 0 → ⊥)
       → Replied (running w memory pages ports budget d) (running w memory pages ports budget d).answer w memory pages ports
   unfolding running given sized
-  running-keeps budget d = keeps w _ _ _ (refused-left mil1750 _ (run_of budget d)) (eqb (length w) size)
+  running-keeps budget d = keeps w _ _ _ (unmade _ (run_of budget d) _ refl) (eqb (length w) size)

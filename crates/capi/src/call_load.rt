@@ -19,13 +19,11 @@ pub extern "C" fn twin1750_load(
         return 100;
     }
     let given = unpack(state);
-    let loaded = image_load::load(given, image, memory, pages, ports);
-    let answer = loaded.answer;
-    let refused = image::questions::number(answer) as u32;
-    if refused != 0 {
-        return refused;
+    match image_load::load(given, image, memory, pages, ports) {
+        Ok(left) => {
+            pack(left, state);
+            0
+        }
+        Err(e) => u32::from(image::questions::number(Err(e))),
     }
-    let left = loaded.state;
-    pack(left, state);
-    0
 }

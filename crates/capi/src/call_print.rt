@@ -2,8 +2,6 @@
 ghost use Rattle.line.specs.Lines.{line_of};
 ghost use Rattle.capi.specs.LineCalls.{LinePrinted};
 
-use line::Printed;
-
 // Printing: what line::print does; the length of the line is put where `length` points.
 #[unsafe(no_mangle)]
 pub extern "C" fn twin1750_print(
@@ -14,12 +12,11 @@ pub extern "C" fn twin1750_print(
 ) -> u32
     ensures { LinePrinted (line_of first second) line.old line.new length.old length.new result }
 {
-    let answer = line::print(first, second, line);
-    match answer {
-        Printed::Length(n) => {
+    match line::print(first, second, line) {
+        Some(n) => {
             *length = n;
             0
         }
-        Printed::Illegal => 14,
+        None => 14,
     }
 }

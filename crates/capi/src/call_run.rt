@@ -20,13 +20,11 @@ pub extern "C" fn twin1750_run(
         return 100;
     }
     let given = unpack(state);
-    let ran = run::run(given, memory, pages, ports, durations, budget);
-    let answer = ran.answer;
-    let refused = run::number(answer) as u32;
-    if refused != 0 {
-        return refused;
+    match run::run(given, memory, pages, ports, durations, budget) {
+        Ok(left) => {
+            pack(left, state);
+            0
+        }
+        Err(e) => u32::from(run::number(Err(e))),
     }
-    let left = ran.state;
-    pack(left, state);
-    0
 }

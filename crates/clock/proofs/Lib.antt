@@ -2,3 +2,4 @@
 pub mod DeferredLaws
 pub mod LongestLaws
 pub mod Wrong
+pub mod TimerLaws

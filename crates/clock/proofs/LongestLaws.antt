@@ -1,19 +1,7 @@
 -- No duration is longer than the longest. Assumes nothing.
-use Rattle.std.proofs.Common.{◌≡◌, ℕ, zero, suc, ◌+◌, ◌<◌, ◌≤◌, Bool, true, false, cond, eqb, ltb, List, length, get_or, sym, refl, ap, ◌∙◌, arith, ltb-false, ltb-true, eqb-true}
+use Rattle.std.proofs.Common.{◌≡◌, ℕ, zero, suc, ◌<◌, ◌≤◌, Bool, true, false, cond, eqb, ltb, List, length, get_or, refl, arith, ltb-false, ltb-true, eqb-true}
 use borrow.Author.Tests.{eqb-false}
 use Rattle.clock.specs.Deferred.{longest_to, longest_of}
-
--- one duration more: r is the larger of the longest before it and itself; it is above 0 and below 65,536 as both are
-pub longest-next : (d : List ℕ) (n a b r : ℕ) → a ≡ longest_to d n → b ≡ get_or d n 0 → r ≡ cond (ltb a b) b a → r ≡ longest_to d (n + 1)
-unfolding longest_to
-longest-next d n a b r e f h = let one : n + 1 ≡ suc n = omega arith in h ∙ rw (e, f) refl ∙ sym (ap (longest_to d) one)
-
-pub larger-within : (a b r : ℕ) → r ≡ cond (ltb a b) b a → 0 < a → a < 65536 → b < 65536 → (0 < r) × (r < 65536)
-larger-within a b r h p q z = by (ltb a b) refl
-  where
-    by : (c : Bool) → ltb a b ≡ c → (0 < r) × (r < 65536)
-    by true e = let k = ltb-true a b e in let is : r ≡ b = h ∙ rw e refl in (omega arith, omega arith)
-    by false e = let is : r ≡ a = h ∙ rw e refl in (omega arith, omega arith)
 
 -- the larger of two is none smaller
 larger : (b : Bool) (x y : ℕ) → ltb x y ≡ b → (x ≤ cond (ltb x y) y x) × (y ≤ cond (ltb x y) y x)

@@ -1,8 +1,7 @@
 -- Two wrong answers of each contract that other crates call, beside the right one, which the checker computes. Assumes nothing.
-use Rattle.std.proofs.Common.{ℕ, true, T, List, [], ◌∷◌, get_or, set, replicate}
+use Rattle.std.proofs.Common.{ℕ, true, T, List, [], ◌∷◌, get_or, set, replicate, Ok}
 use lib.Bits.{bit_or}
 use Rattle.choice.proofs.Rows.{Row, one, some, hold, flag}
-use Rattle.page.specs.declared.Got.TheVariants.{Word}
 use Rattle.page.specs.Pages.{refusal}
 use Rattle.machine.specs.declared.Core.{Core}
 use Rattle.machine.specs.declared.Clock.{Clock}
@@ -34,7 +33,7 @@ pub rows : List Row
 unfolding machinery after_ticks longest_to longest_of ticks_left deferrable_of
 rows =
     -- durations::duration_of: by the low byte of the first word; by the last number
-    one (get_or e (timed_by (Word 0x8010)) 0) 37 5 9
+    one (get_or e (timed_by (Ok 0x8010)) 0) 37 5 9
     -- durations::entry_duration: that of opcode FF; that of opcode 00
     ∷ one (get_or e 256 0) 9 7 0
     -- durations::longest: the last duration; 0 where all are 0

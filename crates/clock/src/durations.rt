@@ -1,51 +1,31 @@
-// The duration of a step, by the list that a run is lent: callers have 257 of them.
-ghost use Rattle.std.specs.Prelude.{◌≡◌, ◌/◌, ◌<◌, length, if◌then◌else◌, nat_lt, slice_index};
-ghost use Rattle.page.specs.declared.Got.TheVariants as got;
+// The duration of a step, by the list that a run is lent.
+ghost use Rattle.std.specs.Prelude.{◌≡◌, ◌/◌, ◌<◌, slice_index, Ok};
 ghost use Rattle.machine.specs.Step.{timed_by};
 ghost use Rattle.clock.specs.Deferred.{longest_of};
 
-// A duration as a number of 64 bits.
-fn wide(n: u16) -> u64
-    ensures { (result ≡ n) × (result < 65536) }
-{
-    n as u64
-}
-
 // The duration of a step that fetched the first word of an instruction, whatever came of it.
-pub fn duration_of(durations: &[u16], first: u16) -> u64
-    requires { length durations.now ≡ 257 }
-    ensures { (result ≡ slice_index durations.now (timed_by (got.Word first))) × (timed_by (got.Word first) ≡ first / 256) × (result < 65536) }
+#[tactic(auto, unfolding(machine::specs::Step::timed_by))]
+pub fn duration_of(durations: &[u16; 257], first: u16) -> u64
+    ensures { (result ≡ slice_index durations.now (timed_by (Ok first))) × (timed_by (Ok first) ≡ first / 256) × (result < 65536) }
 {
-    wide(durations[(first / 256) as usize])
+    u64::from(durations[(first / 256) as usize])
 }
 
 // The duration of a step that fetched none.
-pub fn entry_duration(durations: &[u16]) -> u64
-    requires { length durations.now ≡ 257 }
+pub fn entry_duration(durations: &[u16; 257]) -> u64
     ensures { (result ≡ slice_index durations.now 256) × (result < 65536) }
 {
-    wide(durations[256])
-}
-
-// The larger of two numbers.
-fn larger(a: u64, b: u64) -> u64
-    ensures { result ≡ (if nat_lt a b then b else a) }
-{
-    if a < b {
-        return b;
-    }
-    a
+    u64::from(durations[256])
 }
 
 // The longest duration, or 1 where all are 0.
+#[tactic(auto, unfolding(crate::specs::Deferred::longest_to, crate::specs::Deferred::longest_of))]
 pub fn longest(durations: &[u16]) -> u32
     ensures { (result ≡ longest_of durations.now) × (0 < result) × (result < 65536) }
 {
-    let mut most: u64 = 1;
-    let mut i: usize = 0;
-    while i < durations.len() {
-        most = larger(most, wide(durations[i]));
-        i += 1;
+    let mut most: u16 = 1;
+    for d in durations {
+        most = most.max(*d);
     }
-    most as u32
+    u32::from(most)
 }

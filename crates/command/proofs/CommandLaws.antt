@@ -1,5 +1,8 @@
 -- Commands on one side of 8000 meet none of the rules on the other. Assumes nothing.
+use Rattle.std.proofs.Common.{Result, Ok, Err}
 use Prim.Native.Nat.{ℕ, ◌≤◌}
+use Rattle.machine.specs.declared.Core.{Core}
+use Rattle.page.specs.declared.Refusal.{Refusal}
 use mathlib.Core.Bool.{Bool, true, false, ◌&&◌, false≢true}
 use mathlib.Core.List.{List, [], ◌∷◌}
 use mathlib.Core.Path.{◌≡◌, refl, sym, ap, ◌∙◌}
@@ -8,8 +11,6 @@ use Rattle.choice.specs.Select.{select, up_to}
 use Rattle.choice.proofs.SelectLaws.{beyond}
 use Rattle.choice.proofs.TestLaws.{both}
 use Rattle.command.specs.Transfer.{Kept}
-use Rattle.command.specs.declared.Governed.{Governed}
-use Rattle.command.specs.declared.Governed.TheVariants.{Done, Refused}
 
 -- whether the numbers of all rules pass the test p
 abbrev pub every : {A : Type 0} → (ℕ → Bool) → List (ℕ × A) → Bool
@@ -29,7 +30,7 @@ pub past-outputs : {A : Type 0} (c : ℕ) → 0x8000 ≤ c → (v w x y z d e : 
 past-outputs c h v w x y z d e f = f ∙ sym (beyond c 0x8000 ((0x03FF, v) ∷ (0x50FF, w) ∷ (0x51FF, x) ∷ (0x52FF, y) ∷ (0x7FFF, z) ∷ []) d refl h)
 
 -- a list that is the same afterwards is kept
-pub same : (r : Governed) (x : List ℕ) → Kept r x x
+pub same : (r : Result Core Refusal) (x : List ℕ) → Kept r x x
 unfolding Kept
-same (Done c) x = tt
-same (Refused b) x = refl
+same (Ok c) x = tt
+same (Err b) x = refl

@@ -14,22 +14,15 @@ use page::Refusal;
 pub mod timers;
 mod xio;
 
-// The command is done, and leaves this core; or it is refused, and nothing is changed.
-#[derive(Clone, Copy)]
-pub enum Governed {
-    Done(Core),
-    Refused(Refusal),
-}
-
-// XIO n: the command in its derived operand, which is no timer command; whatever the clock is.
+// XIO n: the command in its derived operand, which is no timer command; whatever the clock is. It is done, and leaves this core; or it is refused, and nothing is changed.
 pub fn transfer(
     core: Core,
     regs: &mut [u16; 16],
-    pages: &mut [u16],
-    ports: &mut [u16],
+    pages: &mut [u16; 512],
+    ports: &mut [u16; 1024],
     n: Instruction,
-) -> Governed
-    requires { (length pages.old ≡ 512) × (length ports.old ≡ 1024) × (is_timer n.address ≡ false) }
+) -> Result<Core, Refusal>
+    requires { is_timer n.address ≡ false }
     ensures { ((s : State) → governed s result regs.new pages.new ports.new
         ≡ transferred (with_processor s (joined core regs.old)) pages.old ports.old n)
         × Kept result regs.old regs.new × Kept result pages.old pages.new × Kept result ports.old ports.new }

@@ -1,5 +1,5 @@
 // XIO's commands (5.1), for the core at the next instruction. Those below 8000 are outputs: they take the contents of RA and leave the
-// registers; the others are inputs: they set RA and leave page registers and ports. Callers have 512 page registers and 1024 ports.
+// registers; the others are inputs: they set RA and leave page registers and ports.
 ghost use Rattle.std.specs.Prelude.{◌≡◌, false, List, ℕ, ◌<◌, ◌≤◌, length};
 ghost use Rattle.machine.specs.declared.Instruction.{Instruction};
 ghost use Rattle.machine.specs.declared.State.{State};
@@ -8,7 +8,6 @@ ghost use Rattle.isa.specs.Fields.{field_a, with_register};
 ghost use Rattle.isa.specs.Commands.{core_command, is_timer, commanded};
 ghost use Rattle.command.specs.Transfer.{governed, Kept};
 
-use crate::Governed;
 use addressing::fields::{field_a, put};
 use bits::bits::reset_bit;
 use command_core::{
@@ -18,38 +17,39 @@ use machine::{Core, Instruction};
 use page::Refusal;
 
 // The outputs to the core: SMK CLIR ENBL DSBL RPI SPI WSW.
-fn core_output(core: Core, ra: u16, command: u16) -> Governed
+fn core_output(core: Core, ra: u16, command: u16) -> Result<Core, Refusal>
     requires { command < 0x8000 }
     ensures { (s : State) (regs g o : List ℕ) (n : Instruction) → governed s result regs g o ≡ core_command (with_processor s (joined core regs)) g o n ra command }
 {
+    // by the standard's word, as `isa/Commands` goes
     match command {
-        0x2000 => Governed::Done(set_mask(core, ra)),
-        0x2001 => Governed::Done(clear_pending(core)),
-        0x2002 => Governed::Done(set_enabled(core, true, true)),
-        0x2003 => Governed::Done(set_enabled(core, false, core.hold)),
-        0x2004 => Governed::Done(reset_pending(core, ra % 16)),
-        0x2005 => Governed::Done(hold_pending(core, ra)),
-        0x200E => Governed::Done(set_status(core, ra)),
-        _ => Governed::Refused(Refusal { ft: 0x0400, mfs: 0 }),
+        0x2000 => Ok(set_mask(core, ra)),
+        0x2001 => Ok(clear_pending(core)),
+        0x2002 => Ok(set_enabled(core, true, true)),
+        0x2003 => Ok(set_enabled(core, false, core.hold)),
+        0x2004 => Ok(reset_pending(core, ra % 16)),
+        0x2005 => Ok(hold_pending(core, ra)),
+        0x200E => Ok(set_status(core, ra)),
+        _ => Err(Refusal { ft: 0x0400, mfs: 0 }),
     }
 }
 
 // All outputs: PO WIPR WOPR by their ranges, and between them those to the core.
 pub(crate) fn output(
     core: Core,
-    pages: &mut [u16],
-    ports: &mut [u16],
+    pages: &mut [u16; 512],
+    ports: &mut [u16; 1024],
     ra: u16,
     command: u16,
-) -> Governed
-    requires { (length pages.old ≡ 512) × (length ports.old ≡ 1024) × (command < 0x8000) × (is_timer command ≡ false) }
+) -> Result<Core, Refusal>
+    requires { (command < 0x8000) × (is_timer command ≡ false) }
     ensures { ((s : State) (regs : List ℕ) (n : Instruction)
         → governed s result regs pages.new ports.new ≡ commanded (with_processor s (joined core regs)) pages.old ports.old n ra command)
         × Kept result pages.old pages.new × Kept result ports.old ports.new }
 {
     if command <= 0x03FF {
         ports[command as usize] = ra;
-        return Governed::Done(core);
+        return Ok(core);
     }
     if command <= 0x50FF {
         return core_output(core, ra, command);
@@ -57,11 +57,11 @@ pub(crate) fn output(
     let page = (command % 256) as usize;
     if command <= 0x51FF {
         pages[page] = ra;
-        return Governed::Done(core);
+        return Ok(core);
     }
     if command <= 0x52FF {
         pages[256 + page] = ra;
-        return Governed::Done(core);
+        return Ok(core);
     }
     core_output(core, ra, command)
 }
@@ -74,34 +74,35 @@ fn take(regs: &mut [u16; 16], n: Instruction, x: u16)
 }
 
 // The inputs from the core: RMK RPIR RMFS RSW RCFR.
-fn core_input(core: Core, regs: &mut [u16; 16], n: Instruction) -> Governed
+fn core_input(core: Core, regs: &mut [u16; 16], n: Instruction) -> Result<Core, Refusal>
     requires { 0x8000 ≤ n.address }
     ensures { ((s : State) (g o : List ℕ) (ra : ℕ) → governed s result regs.new g o ≡ core_command (with_processor s (joined core regs.old)) g o n ra n.address)
         × Kept result regs.old regs.new }
 {
     let command = n.address;
+    // by the standard's word, as `isa/Commands` goes
     match command {
         0xA000 => {
             take(regs, n, core.mk);
-            Governed::Done(core)
+            Ok(core)
         }
         0xA004 => {
             take(regs, n, core.pi);
-            Governed::Done(core)
+            Ok(core)
         }
         0xA00D => {
             take(regs, n, core.faults.mfs);
-            Governed::Done(core)
+            Ok(core)
         }
         0xA00E => {
             take(regs, n, core.sw);
-            Governed::Done(core)
+            Ok(core)
         }
         0xA00F => {
             take(regs, n, core.faults.ft);
-            Governed::Done(set_pending(core, reset_bit(core.pi, 1), 0))
+            Ok(set_pending(core, reset_bit(core.pi, 1), 0))
         }
-        _ => Governed::Refused(Refusal { ft: 0x0400, mfs: 0 }),
+        _ => Err(Refusal { ft: 0x0400, mfs: 0 }),
     }
 }
 
@@ -109,18 +110,18 @@ fn core_input(core: Core, regs: &mut [u16; 16], n: Instruction) -> Governed
 pub(crate) fn input(
     core: Core,
     regs: &mut [u16; 16],
-    pages: &[u16],
-    ports: &[u16],
+    pages: &[u16; 512],
+    ports: &[u16; 1024],
     n: Instruction,
-) -> Governed
-    requires { (length pages.now ≡ 512) × (length ports.now ≡ 1024) × (0x8000 ≤ n.address) × (is_timer n.address ≡ false) }
+) -> Result<Core, Refusal>
+    requires { (0x8000 ≤ n.address) × (is_timer n.address ≡ false) }
     ensures { ((s : State) (ra : ℕ) → governed s result regs.new pages.now ports.now
         ≡ commanded (with_processor s (joined core regs.old)) pages.now ports.now n ra n.address)
         × Kept result regs.old regs.new }
 {
     if n.address <= 0x83FF {
         take(regs, n, ports[(n.address % 1024) as usize]);
-        return Governed::Done(core);
+        return Ok(core);
     }
     if n.address <= 0xD0FF {
         return core_input(core, regs, n);
@@ -128,11 +129,11 @@ pub(crate) fn input(
     let page = (n.address % 256) as usize;
     if n.address <= 0xD1FF {
         take(regs, n, pages[page]);
-        return Governed::Done(core);
+        return Ok(core);
     }
     if n.address <= 0xD2FF {
         take(regs, n, pages[256 + page]);
-        return Governed::Done(core);
+        return Ok(core);
     }
     core_input(core, regs, n)
 }

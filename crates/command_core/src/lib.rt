@@ -9,79 +9,78 @@ use bits::bits::reset_bit;
 use machine::{Core, Faults, Instruction};
 
 // IC is that of the next instruction.
+#[tactic(auto, unfolding(isa::specs::Commands::resumed, machine::specs::State::with_ic))]
 pub fn resume(core: Core, n: Instruction) -> Core
     ensures { result ≡ resumed core n }
 {
-    let mut t = core;
-    t.ic = effect::following(n);
-    t
+    Core {
+        ic: effect::following(n),
+        ..core
+    }
 }
 
 // LST: MK, SW and IC.
+#[tactic(auto, unfolding(isa::specs::Commands::status_loaded, machine::specs::State::with_ic, machine::specs::State::with_sw, machine::specs::State::with_mk))]
 pub fn load_status(core: Core, mk: u16, sw: u16, ic: u16) -> Core
     ensures { result ≡ status_loaded core mk sw ic }
 {
-    let mut t = core;
-    t.mk = mk;
-    t.sw = sw;
-    t.ic = ic;
-    t
+    Core { mk, sw, ic, ..core }
 }
 
 // SMK: MK.
+#[tactic(auto, unfolding(machine::specs::State::with_mk))]
 pub fn set_mask(core: Core, mk: u16) -> Core
     ensures { result ≡ with_mk core mk }
 {
-    let mut t = core;
-    t.mk = mk;
-    t
+    Core { mk, ..core }
 }
 
 // WSW: SW.
+#[tactic(auto, unfolding(machine::specs::State::with_sw))]
 pub fn set_status(core: Core, sw: u16) -> Core
     ensures { result ≡ with_sw core sw }
 {
-    let mut t = core;
-    t.sw = sw;
-    t
+    Core { sw, ..core }
 }
 
 // PI and FT; the memory fault status stays.
+#[tactic(auto, unfolding(machine::specs::State::with_pi, machine::specs::State::with_ft, machine::specs::State::with_faults))]
 pub fn set_pending(core: Core, pi: u16, ft: u16) -> Core
     ensures { result ≡ with_ft (with_pi core pi) ft }
 {
-    let faults = Faults {
-        ft,
-        mfs: core.faults.mfs,
-    };
-    let mut t = core;
-    t.pi = pi;
-    t.faults = faults;
-    t
+    Core {
+        pi,
+        faults: Faults { ft, ..core.faults },
+        ..core
+    }
 }
 
 // CLIR: PI, FT and the memory fault status are cleared.
+#[tactic(auto, unfolding(machine::specs::State::with_pi, machine::specs::State::with_ft, machine::specs::State::with_mfs, machine::specs::State::with_faults))]
 pub fn clear_pending(core: Core) -> Core
     ensures { result ≡ with_mfs (with_ft (with_pi core 0) 0) 0 }
 {
-    let faults = Faults { ft: 0, mfs: 0 };
-    let mut t = core;
-    t.pi = 0;
-    t.faults = faults;
-    t
+    Core {
+        pi: 0,
+        faults: Faults { ft: 0, mfs: 0 },
+        ..core
+    }
 }
 
 // SPI: PI, with the hold mark set.
+#[tactic(auto, unfolding(machine::specs::State::with_pi, machine::specs::State::with_hold))]
 pub fn hold_pending(core: Core, pending: u16) -> Core
     ensures { result ≡ with_hold (with_pi core pending) true }
 {
-    let mut t = core;
-    t.pi = pending;
-    t.hold = true;
-    t
+    Core {
+        pi: pending,
+        hold: true,
+        ..core
+    }
 }
 
 // RPI: PI bit k is cleared, and for k = 1 FT too. A command's k is a field of four bits.
+#[tactic(auto, using(std::proofs::lemmas::Bool::Decides::nat_tests), unfolding(isa::specs::Commands::pending_reset, machine::specs::State::with_pi, machine::specs::State::with_ft, machine::specs::State::with_faults))]
 pub fn reset_pending(core: Core, k: u16) -> Core
     requires { k < 16 }
     ensures { result ≡ pending_reset core k }
@@ -94,6 +93,7 @@ pub fn reset_pending(core: Core, k: u16) -> Core
 }
 
 // Interrupts enabled, and the hold mark. All parts are written: a copy of the others in between would wait for them (docs/BENCHMARK.md, "Sizes").
+#[tactic(auto, unfolding(machine::specs::State::with_enabled, machine::specs::State::with_hold))]
 pub fn set_enabled(core: Core, enabled: bool, hold: bool) -> Core
     ensures { result ≡ with_hold (with_enabled core enabled) hold }
 {

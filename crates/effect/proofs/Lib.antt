@@ -1,3 +1,2 @@
--- The laws of what an operation does.
-pub mod WorkLaws
+-- The rows of wrong answers.
 pub mod Wrong

@@ -8,8 +8,9 @@ use Rattle.page.specs.Spans.{wrapped}
 use Rattle.machine.specs.declared.Instruction.{Instruction}
 use Rattle.machine.specs.State.{cs_of}
 use Rattle.machine.specs.Machine.{Effect, next_of}
-use Rattle.isa.specs.Effects.{Context, fixed_overflow, float_faults, into_registers, single, double, loaded, tested, stored, modified, replaced, nothing}
+use Rattle.isa.specs.Effects.{Context, fixed_overflow, float_faults, effect, into_registers, single, double, loaded, tested, stored, modified, replaced, nothing}
 use Rattle.isa.proofs.OpenInstructions.{instructions}
+use Rattle.effect.specs.declared.Registers.TheVariants.{Two}
 use Rattle.effect.specs.declared.Work.{Work}
 use Rattle.effect.specs.Work.{context, filled}
 
@@ -32,9 +33,9 @@ long = coded 0x2637
 abbrev short : Instruction
 short = coded 0x1103
 
--- values for R15 and R0, and a third that is not used
+-- values for R15 and R0
 abbrev two_from15 : Work
-two_from15 = record { first = 15; count = 2; v0 = 1; v1 = 2; v2 = 3; ic = 0; cs = 0; pi = 0; w0 = 0; w1 = 0; w2 = 0 }
+two_from15 = record { registers = Two 15 1 2; ic = 0; cs = 0; pi = 0; words = 0 ∷ 0 ∷ 0 ∷ [] }
 
 -- three registers from k on
 abbrev three_from : ℕ → List ℕ → List ℕ
@@ -60,17 +61,22 @@ rows =
     ∷ some (float_faults true false ∷ float_faults false true ∷ []) (0x1000 ∷ 0x0200 ∷ []) (0x0800 ∷ 0x0200 ∷ []) (0x0200 ∷ 0x1000 ∷ [])
     -- apply: the value past R15 lost; a third value stored where there are two
     ∷ some (three_from 15 (filled regs two_from15)) (1 ∷ 2 ∷ 0x1001 ∷ []) (1 ∷ 0x1000 ∷ 0x1001 ∷ []) (1 ∷ 2 ∷ 3 ∷ [])
-    -- shapes::result1: the old bits of PI lost; one word on after an instruction of two
+    -- shapes::effect: on to the next instruction; the old bits of PI lost
+    ∷ some (put (effect before 1 (7 ∷ []) 0x0300 4 0x0800 (7 ∷ 8 ∷ 9 ∷ [])))
+    (7 ∷ 8 ∷ 9 ∷ 0x0300 ∷ 4 ∷ 0x0801 ∷ [])
+    (7 ∷ 8 ∷ 9 ∷ 0x0102 ∷ 4 ∷ 0x0801 ∷ [])
+    (7 ∷ 8 ∷ 9 ∷ 0x0300 ∷ 4 ∷ 0x0800 ∷ [])
+    -- shapes::into_registers: the old bits of PI lost; one word on after an instruction of two
     ∷ some (kept 1 (into_registers before long 1 (7 ∷ []) 4 0x0800))
     (7 ∷ 0x1002 ∷ 0x1003 ∷ 0x0102 ∷ 4 ∷ 0x0801 ∷ [])
     (7 ∷ 0x1002 ∷ 0x1003 ∷ 0x0102 ∷ 4 ∷ 0x0800 ∷ [])
     (7 ∷ 0x1002 ∷ 0x1003 ∷ 0x0101 ∷ 4 ∷ 0x0801 ∷ [])
-    -- shapes::result2: the value past R15 lost; the values exchanged
+    -- shapes::into_registers: the value past R15 lost; the values exchanged
     ∷ some (kept 15 (into_registers before long 15 (7 ∷ 8 ∷ []) 4 0))
     (7 ∷ 8 ∷ 0x1001 ∷ 0x0102 ∷ 4 ∷ 1 ∷ [])
     (7 ∷ 0x1000 ∷ 0x1001 ∷ 0x0102 ∷ 4 ∷ 1 ∷ [])
     (8 ∷ 7 ∷ 0x1001 ∷ 0x0102 ∷ 4 ∷ 1 ∷ [])
-    -- shapes::result3: the third value lost; the second value twice
+    -- shapes::into_registers: the third value lost; the second value twice
     ∷ some (kept 14 (into_registers before long 14 (7 ∷ 8 ∷ 9 ∷ []) 4 0))
     (7 ∷ 8 ∷ 9 ∷ 0x0102 ∷ 4 ∷ 1 ∷ [])
     (7 ∷ 8 ∷ 0x1000 ∷ 0x0102 ∷ 4 ∷ 1 ∷ [])

@@ -1,33 +1,46 @@
-// What an operation on at most three words does: its scalars, and how its registers are filled.
+// What an operation on at most three words does: IC, CS, PI and the words to store, and how its registers are filled.
 #![tactic(auto)]
 
 ghost use Rattle.std.specs.Prelude.{◌≡◌};
+ghost use Rattle.float.specs.Float.{overflows, underflows};
 ghost use Rattle.machine.specs.State.{cs_of};
 ghost use Rattle.machine.specs.Machine.{next_of};
+ghost use Rattle.isa.specs.Fields.{with_register};
 ghost use Rattle.isa.specs.Effects.{fixed_overflow, float_faults};
 ghost use Rattle.effect.specs.Work.{filled};
 
+use float::FloatFault;
 use machine::Instruction;
 use std::num::wrapping_add_u16;
 
 pub mod shapes;
 
-// The first register that gets a value, how many get one (0 to 3) and the values; IC, CS and PI afterwards; three words to store, 0 where there is none.
-// A contract that says `worked regs r ≡ ..`, for any registers, gives all that the operation does. Open is what does nothing: the values past `count`,
-// `first` where `count` is 0, multiples of 16 in `first`, and how far `count` is above 3.
+// What an operation sees besides registers and memory: SW and PI before it, and its instruction.
+#[derive(Clone, Copy)]
+pub struct Before {
+    pub sw: u16,
+    pub pi: u16,
+    pub n: Instruction,
+}
+
+// The registers that get values: none, or those from a number on, which comes first; R0 follows R15.
+#[derive(Clone, Copy)]
+pub enum Registers {
+    Kept,
+    One(u16, u16),
+    Two(u16, u16, u16),
+    Three(u16, u16, u16, u16),
+}
+
+// The registers that get values; IC, CS and PI afterwards; three words to store, 0 where there is none.
+// A contract that says `worked regs r ≡ ..`, for any registers, gives all that the operation does. Open is what does nothing: multiples of 16 in a register's number.
 #[derive(Clone, Copy)]
 pub struct Work {
-    pub first: u16,
-    pub count: u16,
-    pub v0: u16,
-    pub v1: u16,
-    pub v2: u16,
+    pub registers: Registers,
     pub ic: u16,
     pub cs: u16,
     pub pi: u16,
-    pub w0: u16,
-    pub w1: u16,
-    pub w2: u16,
+    pub words: [u16; 3],
 }
 
 // The address of the next instruction.
@@ -52,32 +65,38 @@ pub fn fixed_overflow(overflow: bool) -> u16
 }
 
 // PI bit 3 or 6, where there is floating point overflow or underflow.
-pub fn float_faults(overflow: bool, underflow: bool) -> u16
-    ensures { result ≡ float_faults overflow underflow }
+pub fn float_faults(fault: Option<FloatFault>) -> u16
+    ensures { result ≡ float_faults (overflows fault) (underflows fault) }
 {
-    if overflow {
-        return 0x1000;
+    match fault {
+        Some(FloatFault::Overflow) => 0x1000,
+        Some(FloatFault::Underflow) => 0x0200,
+        None => 0,
     }
-    if underflow { 0x0200 } else { 0 }
+}
+
+// Register k gets a value.
+fn put(regs: &mut [u16; 16], k: usize, x: u16)
+    ensures { regs.new ≡ with_register regs.old k x }
+{
+    regs[k % 16] = x;
 }
 
 // The registers get their values.
 pub fn apply(regs: &mut [u16; 16], e: Work)
     ensures { regs.new ≡ filled regs.old e }
 {
-    if e.count == 0 {
-        return;
+    match e.registers {
+        Registers::Kept => {}
+        Registers::One(k, only) => put(regs, k as usize, only),
+        Registers::Two(k, first, last) => {
+            put(regs, k as usize, first);
+            put(regs, k as usize + 1, last);
+        }
+        Registers::Three(k, first, second, third) => {
+            put(regs, k as usize, first);
+            put(regs, k as usize + 1, second);
+            put(regs, k as usize + 2, third);
+        }
     }
-    let first = e.first as usize;
-    regs[first % 16] = e.v0;
-    if e.count == 1 {
-        return;
-    }
-    let second = first + 1;
-    regs[second % 16] = e.v1;
-    if e.count == 2 {
-        return;
-    }
-    let third = second + 1;
-    regs[third % 16] = e.v2;
 }

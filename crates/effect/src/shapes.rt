@@ -1,152 +1,96 @@
 // The shapes of what an operation does, from the instruction and SW and PI before it. Whatever the registers hold, each is the shape of the definitions;
 // one that does not need SW is so for every SW.
-ghost use Rattle.std.specs.Prelude.{◌≡◌, ℕ, List, [], ◌∷◌};
-ghost use Rattle.isa.specs.Effects.{into_registers, single, double, loaded, tested, stored, modified, replaced, nothing};
-ghost use Rattle.effect.specs.Work.{context, worked};
+ghost use Rattle.std.specs.Prelude.{◌≡◌, ℕ, List, ◌∷◌, []};
+ghost use Rattle.isa.specs.Effects.{effect, into_registers, single, double, loaded, tested, stored, modified, replaced, nothing};
+ghost use Rattle.effect.specs.Work.{context, worked, first_of, values_of};
 
-use crate::{Work, cs_of, following};
-use machine::Instruction;
+use crate::{Before, Registers, Work, cs_of, following};
 use word::pair::{high, low};
-use word::status::{status16, status32};
+use word::status::status;
 
-// Register k gets a value, CS is set, PI bits are added.
-pub fn result1(pi: u16, n: Instruction, k: u16, x: u16, cs: u16, bits: u16) -> Work
-    ensures { (regs : List ℕ) (sw : ℕ) → worked regs result ≡ into_registers (context regs sw pi) n k (x ∷ []) cs bits }
-{
-    Work {
-        first: k,
-        count: 1,
-        v0: x,
-        v1: 0,
-        v2: 0,
-        ic: following(n),
-        cs,
-        pi: pi | bits,
-        w0: 0,
-        w1: 0,
-        w2: 0,
+impl Before {
+    // Registers get values, on to the address ic, CS is set, PI bits are added, words are stored.
+    pub fn effect(self, r: Registers, ic: u16, cs: u16, bits: u16, words: [u16; 3]) -> Work
+        ensures { (regs : List ℕ) (sw : ℕ) → worked regs result ≡ effect (context regs sw self.pi) (first_of r) (values_of r) ic cs bits words }
+    {
+        Work {
+            registers: r,
+            ic,
+            cs,
+            pi: self.pi | bits,
+            words,
+        }
     }
-}
 
-// Two registers from k on get values.
-pub fn result2(pi: u16, n: Instruction, k: u16, x: u16, y: u16, cs: u16, bits: u16) -> Work
-    ensures { (regs : List ℕ) (sw : ℕ) → worked regs result ≡ into_registers (context regs sw pi) n k (x ∷ y ∷ []) cs bits }
-{
-    Work {
-        first: k,
-        count: 2,
-        v0: x,
-        v1: y,
-        v2: 0,
-        ic: following(n),
-        cs,
-        pi: pi | bits,
-        w0: 0,
-        w1: 0,
-        w2: 0,
+    // Registers get values, CS is set, PI bits are added.
+    pub fn into_registers(self, r: Registers, cs: u16, bits: u16) -> Work
+        ensures { (regs : List ℕ) (sw : ℕ) → worked regs result ≡ into_registers (context regs sw self.pi) self.n (first_of r) (values_of r) cs bits }
+    {
+        self.effect(r, following(self.n), cs, bits, [0, 0, 0])
     }
-}
 
-// Three registers from k on get values.
-pub fn result3(pi: u16, n: Instruction, k: u16, x: u16, y: u16, z: u16, cs: u16, bits: u16) -> Work
-    ensures { (regs : List ℕ) (sw : ℕ) → worked regs result ≡ into_registers (context regs sw pi) n k (x ∷ y ∷ z ∷ []) cs bits }
-{
-    Work {
-        first: k,
-        count: 3,
-        v0: x,
-        v1: y,
-        v2: z,
-        ic: following(n),
-        cs,
-        pi: pi | bits,
-        w0: 0,
-        w1: 0,
-        w2: 0,
+    // Register k gets a word, and CS its status.
+    pub fn single(self, k: u16, x: u16) -> Work
+        ensures { (regs : List ℕ) (sw : ℕ) → worked regs result ≡ single (context regs sw self.pi) self.n k x }
+    {
+        self.into_registers(Registers::One(k, x), status(x), 0)
     }
-}
 
-// Register k gets a word, and CS its status.
-pub fn single(pi: u16, n: Instruction, k: u16, x: u16) -> Work
-    ensures { (regs : List ℕ) (sw : ℕ) → worked regs result ≡ single (context regs sw pi) n k x }
-{
-    result1(pi, n, k, x, status16(x), 0)
-}
-
-// Registers k and k + 1 get a double word, and CS its status.
-pub fn double(pi: u16, n: Instruction, k: u16, x: u32) -> Work
-    ensures { (regs : List ℕ) (sw : ℕ) → worked regs result ≡ double (context regs sw pi) n k x }
-{
-    let first = high(x);
-    let second = low(x);
-    result2(pi, n, k, first, second, status32(x), 0)
-}
-
-// Register k gets a word.
-pub fn loaded(sw: u16, pi: u16, n: Instruction, k: u16, x: u16) -> Work
-    ensures { (regs : List ℕ) → worked regs result ≡ loaded (context regs sw pi) n k x }
-{
-    result1(pi, n, k, x, cs_of(sw), 0)
-}
-
-// A word is stored, CS is set, PI bits are added.
-pub fn modified(pi: u16, n: Instruction, x: u16, cs: u16, bits: u16) -> Work
-    ensures { (regs : List ℕ) (sw : ℕ) → worked regs result ≡ modified (context regs sw pi) n x cs bits }
-{
-    Work {
-        first: 0,
-        count: 0,
-        v0: 0,
-        v1: 0,
-        v2: 0,
-        ic: following(n),
-        cs,
-        pi: pi | bits,
-        w0: x,
-        w1: 0,
-        w2: 0,
+    // Registers k and k + 1 get a double word, and CS its status.
+    pub fn double(self, k: u16, x: u32) -> Work
+        ensures { (regs : List ℕ) (sw : ℕ) → worked regs result ≡ double (context regs sw self.pi) self.n k x }
+    {
+        self.into_registers(Registers::Two(k, high(x), low(x)), status(x), 0)
     }
-}
 
-// CS is set.
-pub fn tested(pi: u16, n: Instruction, cs: u16) -> Work
-    ensures { (regs : List ℕ) (sw : ℕ) → worked regs result ≡ tested (context regs sw pi) n cs }
-{
-    modified(pi, n, 0, cs, 0)
-}
-
-// Up to three words are stored.
-pub fn stored(sw: u16, pi: u16, n: Instruction, x: u16, y: u16, z: u16) -> Work
-    ensures { (regs : List ℕ) → worked regs result ≡ stored (context regs sw pi) n x y z }
-{
-    Work {
-        first: 0,
-        count: 0,
-        v0: 0,
-        v1: 0,
-        v2: 0,
-        ic: following(n),
-        cs: cs_of(sw),
-        pi: pi | 0,
-        w0: x,
-        w1: y,
-        w2: z,
+    // Register k gets a word.
+    pub fn loaded(self, k: u16, x: u16) -> Work
+        ensures { (regs : List ℕ) → worked regs result ≡ loaded (context regs self.sw self.pi) self.n k x }
+    {
+        self.into_registers(Registers::One(k, x), cs_of(self.sw), 0)
     }
-}
 
-// A word replaces the operand, in register RB or in memory.
-pub fn replaced(sw: u16, pi: u16, n: Instruction, x: u16) -> Work
-    ensures { (regs : List ℕ) → worked regs result ≡ replaced (context regs sw pi) n x }
-{
-    if n.form / 256 % 16 == 1 {
-        return loaded(sw, pi, n, n.first % 16, x);
+    // A word is stored, CS is set, PI bits are added.
+    pub fn modified(self, x: u16, cs: u16, bits: u16) -> Work
+        ensures { (regs : List ℕ) (sw : ℕ) → worked regs result ≡ modified (context regs sw self.pi) self.n x cs bits }
+    {
+        self.effect(Registers::Kept, following(self.n), cs, bits, [x, 0, 0])
     }
-    stored(sw, pi, n, x, 0, 0)
-}
 
-// Nothing: on to the next instruction.
-pub fn nothing(sw: u16, pi: u16, n: Instruction) -> Work
-    ensures { (regs : List ℕ) → worked regs result ≡ nothing (context regs sw pi) n }
-{
-    stored(sw, pi, n, 0, 0, 0)
+    // CS is set.
+    pub fn tested(self, cs: u16) -> Work
+        ensures { (regs : List ℕ) (sw : ℕ) → worked regs result ≡ tested (context regs sw self.pi) self.n cs }
+    {
+        self.into_registers(Registers::Kept, cs, 0)
+    }
+
+    // Up to three words are stored.
+    pub fn stored(self, x: u16, y: u16, z: u16) -> Work
+        ensures { (regs : List ℕ) → worked regs result ≡ stored (context regs self.sw self.pi) self.n x y z }
+    {
+        self.effect(
+            Registers::Kept,
+            following(self.n),
+            cs_of(self.sw),
+            0,
+            [x, y, z],
+        )
+    }
+
+    // A word replaces the operand, in register RB or in memory.
+    pub fn replaced(self, x: u16) -> Work
+        ensures { (regs : List ℕ) → worked regs result ≡ replaced (context regs self.sw self.pi) self.n x }
+    {
+        if self.n.form / 256 % 16 == 1 {
+            return self.loaded(self.n.first % 16, x);
+        }
+        self.stored(x, 0, 0)
+    }
+
+    // Nothing: on to the next instruction.
+    pub fn nothing(self) -> Work
+        ensures { (regs : List ℕ) → worked regs result ≡ nothing (context regs self.sw self.pi) self.n }
+    {
+        self.stored(0, 0, 0)
+    }
 }

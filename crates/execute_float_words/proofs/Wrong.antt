@@ -11,14 +11,12 @@ use Rattle.machine.specs.declared.Instruction.{Instruction}
 use Rattle.isa.proofs.OpenWords.{words}
 use Rattle.isa.proofs.OpenFloats.{floats}
 use Rattle.isa.proofs.OpenInstructions.{instructions}
-use Rattle.execute_float_words.specs.declared.Both.{Both}
-use Rattle.execute_float_words.specs.Operands.{operands24, operands40, arithmetic, resigned}
+use Rattle.execute_float_words.specs.declared.operands.Arithmetic.TheVariants.{Product}
+use Rattle.execute_float_words.specs.declared.operands.Change.TheVariants.{Absolute}
+use Rattle.execute_float_words.specs.Operands.{Operands, operands24, operands40, arithmetic, resigned}
 
 -- two floats: the accumulator and the operand
-abbrev two : ℕ → ℕ → ℕ → ℕ → Both
-two a ea b eb = record { a = a; ea = ea; b = b; eb = eb }
-
-abbrev four : Both → List ℕ
+abbrev four : Operands → List ℕ
 four p = p.a ∷ p.ea ∷ p.b ∷ p.eb ∷ []
 
 -- R0 to R6; the others are not looked at
@@ -38,15 +36,15 @@ rows =
     ∷ some (four (operands40 registers (instruction 0x113D) 0x4007 0x0804 0x0009))
     (0x40_0304_4005 ∷ 130 ∷ 0x40_0506_0007 ∷ 131 ∷ []) (0x40_0304_0402 ∷ 130 ∷ 0x40_0506_0007 ∷ 131 ∷ []) (0x40_0304_4005 ∷ 130 ∷ 0x40_0708_0009 ∷ 132 ∷ [])
     -- operands::combine: the quotient instead of the product; the sum
-    ∷ some (parts (given 24 (arithmetic 24 74 (two 0x40_0000 129 0x60_0000 128))))
+    ∷ some (parts (given 24 (arithmetic 24 Product (signed 24 0x40_0000) 129 (signed 24 0x60_0000) 128)))
     (0x60_0000 ∷ 128 ∷ 0 ∷ 0 ∷ []) (0x55_5555 ∷ 129 ∷ 0 ∷ 0 ∷ []) (0x70_0000 ∷ 129 ∷ 0 ∷ 0 ∷ [])
     -- operands::change24: the absolute value of the accumulator; the operand as it is
-    ∷ some (parts (given 24 (resigned 62 (two 0x40_0000 129 0xA0_0000 128))))
+    ∷ some (parts (given 24 (resigned Absolute (signed 24 0xA0_0000) 128)))
     (0x60_0000 ∷ 128 ∷ 0 ∷ 0 ∷ []) (0x40_0000 ∷ 129 ∷ 0 ∷ 0 ∷ []) (0xA0_0000 ∷ 128 ∷ 0 ∷ 0 ∷ [])
     -- operands::compare_both: the operand compared with the accumulator; the exponents exchanged
     ∷ one (compared_of (signed 24 0x40_0000) 129 (signed 24 0x20_0000) 128) 4 1 2
     ∷ []
 
 pub rows-hold : T (hold rows)
-unfolding rows words floats instructions operands24 operands40 arithmetic resigned
+unfolding rows words floats instructions operands24 operands40
 rows-hold = tt

@@ -1,3 +1,2 @@
 -- The laws of integer operations.
-pub mod OutcomeLaws
 pub mod Wrong

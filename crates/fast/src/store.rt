@@ -4,18 +4,17 @@ ghost use Rattle.decode.specs.Forms.{operation_of};
 ghost use Rattle.machine.specs.State.{Keyed, joined};
 ghost use Rattle.form_table.specs.FormNumbers.{path_of, store_path, pair_path, number_of};
 ghost use Rattle.fast_accumulate.specs.Paths.{word_stored};
-ghost use Rattle.fast_accumulate.specs.Ended.{Ended, ended_core};
+ghost use Rattle.fast_accumulate.specs.Ended.{Ended};
 
 use addressing::fields::{field_a, get};
 use addressing::modes::accumulator_of;
 use effect::{cs_of, following};
 use fast_accumulate::Ending;
-use fast_accumulate::finish::{done, refused};
+use fast_accumulate::finish::done;
 use form_table::write_count;
 use machine::{Core, Instruction};
 use page::lookup::look_up;
-use page::{Access, Place};
-use std::num::wrapping_add_u16;
+use page::{Access, Refusal};
 
 // The word: the accumulator, or the constant of STC.
 fn word_stored(regs: &[u16; 16], n: Instruction) -> u16
@@ -34,30 +33,21 @@ pub(crate) fn store_one(
     group: u16,
     regs: &[u16; 16],
     memory: &mut [u16],
-    pages: &[u16],
+    pages: &[u16; 512],
     n: Instruction,
     number: u32,
-) -> Ending
-    requires { (length pages.now ≡ 512) × Keyed core.sw key group × (path_of (operation_of n.form) ≡ store_path)
-        × (number ≡ number_of n.form) }
-    ensures { Ended (joined core regs.now) memory.old pages.now n result.clear result.fault (joined (ended_core core result) regs.now) memory.new }
+) -> Result<Ending, Refusal>
+    requires { Keyed core.sw key group × (path_of (operation_of n.form) ≡ store_path) × (number ≡ number_of n.form) }
+    ensures { Ended (joined core regs.now) memory.old pages.now n result regs.now memory.new }
 {
     let next = following(n);
     let cs = cs_of(core.sw);
-    if 0 < write_count(n, number) {
-        let x = word_stored(regs, n);
-        let place = look_up(Access::Write, key, group, pages, memory.len(), n.address);
-        match place {
-            Place::At(p) => {
-                memory[p] = x;
-                return done(core, next, cs, 0);
-            }
-            Place::Refused(b) => {
-                return refused(core, b);
-            }
-        }
+    if write_count(n, number) == 0 {
+        return Ok(done(core, next, cs, 0));
     }
-    done(core, next, cs, 0)
+    let at = look_up(Access::Write, key, group, pages, memory.len(), n.address)?;
+    memory[at] = word_stored(regs, n);
+    Ok(done(core, next, cs, 0))
 }
 
 // x goes to p, then y to q; both are inside.
@@ -76,34 +66,23 @@ pub(crate) fn store_two(
     group: u16,
     regs: &[u16; 16],
     memory: &mut [u16],
-    pages: &[u16],
+    pages: &[u16; 512],
     n: Instruction,
     number: u32,
-) -> Ending
-    requires { (length pages.now ≡ 512) × Keyed core.sw key group × (path_of (operation_of n.form) ≡ pair_path)
-        × (number ≡ number_of n.form) }
-    ensures { Ended (joined core regs.now) memory.old pages.now n result.clear result.fault (joined (ended_core core result) regs.now) memory.new }
+) -> Result<Ending, Refusal>
+    requires { Keyed core.sw key group × (path_of (operation_of n.form) ≡ pair_path) × (number ≡ number_of n.form) }
+    ensures { Ended (joined core regs.now) memory.old pages.now n result regs.now memory.new }
 {
     let next = following(n);
     let cs = cs_of(core.sw);
     if write_count(n, number) == 0 {
-        return done(core, next, cs, 0);
+        return Ok(done(core, next, cs, 0));
     }
     let x = get(regs, accumulator_of(n));
     let y = get(regs, accumulator_of(n) + 1);
-    let first = look_up(Access::Write, key, group, pages, memory.len(), n.address);
-    match first {
-        Place::At(p) => {
-            let a = wrapping_add_u16(n.address, 1);
-            let second = look_up(Access::Write, key, group, pages, memory.len(), a);
-            match second {
-                Place::At(q) => {
-                    put_two(memory, p, q, x, y);
-                    done(core, next, cs, 0)
-                }
-                Place::Refused(b) => refused(core, b),
-            }
-        }
-        Place::Refused(b) => refused(core, b),
-    }
+    let a = n.address.wrapping_add(1);
+    let p = look_up(Access::Write, key, group, pages, memory.len(), n.address)?;
+    let q = look_up(Access::Write, key, group, pages, memory.len(), a)?;
+    put_two(memory, p, q, x, y);
+    Ok(done(core, next, cs, 0))
 }

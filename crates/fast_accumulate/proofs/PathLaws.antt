@@ -17,7 +17,7 @@ use Rattle.machine.specs.declared.Instruction.{Instruction}
 use Rattle.machine.specs.declared.Class.TheVariants.{User}
 use Rattle.machine.specs.State.{cs_of}
 use Rattle.machine.specs.Machine.{Effect, span_from}
-use Rattle.fixed_add.specs.Fixed.{Outcome}
+use Rattle.fixed_add.specs.declared.Outcome.{Outcome}
 use Rattle.isa.specs.Fields.{register}
 use Rattle.isa.specs.Addressing.{in_memory, operand, double_operand, accumulator}
 use Rattle.isa.specs.Accesses.{words_read, words_written, reads_of, writes_of}
@@ -189,7 +189,7 @@ module _ (n : Instruction) where
       (of-path w (λ k. among k ks) t (operation_of n.form) (omega arith) e) refl
 
   -- one word goes into the accumulator
-  abbrev pub singled : Context → ℕ → Outcome
+  abbrev pub singled : Context → ℕ → Outcome ℕ
   singled v x = into_single (operation_of n.form) (register v.regs (accumulator n)) (operand v.regs n x)
 
   single-does : path_of (operation_of n.form) ≡ 1 → (v : Context) (ws : List ℕ) → executed v n ws ≡ single_outcome v n (accumulator n) (singled v (get_or ws 0 0))
@@ -203,7 +203,7 @@ module _ (n : Instruction) where
   does-single e v ws x h = single-does e v ws ∙ ap (λ (u : ℕ). single_outcome v n (accumulator n) (singled v u)) (sym h)
 
   -- two words go there
-  abbrev pub doubled : Context → ℕ → ℕ → Outcome
+  abbrev pub doubled : Context → ℕ → ℕ → Outcome ℕ
   doubled v x y = into_double (operation_of n.form) (register_pair v.regs (target n)) (double_operand v.regs n x y)
 
   double-does : path_of (operation_of n.form) ≡ 2 → (v : Context) (ws : List ℕ)

@@ -5,18 +5,19 @@ use Rattle.std.specs.Int.Bits.{bit_and, bit_or}
 use Rattle.choice.specs.Select.{select}
 use Rattle.word.specs.Status.{status}
 use Rattle.word.specs.Condition.{jump_taken, branch_taken}
-use Rattle.fixed_add.specs.Fixed.{Outcome, sum, difference}
+use Rattle.fixed_add.specs.declared.Outcome.{Outcome}
+use Rattle.fixed_add.specs.Fixed.{sum, difference}
 use Rattle.decode.specs.Forms.{operation_of}
 use Rattle.machine.specs.declared.Instruction.{Instruction}
 use Rattle.isa.specs.Fields.{field_a, register}
 use Rattle.isa.specs.Addressing.{accumulator}
 
 -- w bits as they are, and their status
-unfoldable pub plain : ℕ → ℕ → Outcome
+unfoldable pub plain : ℕ → ℕ → Outcome ℕ
 plain w x = record { value = x; cs = status w x; overflow = false }
 
 -- word_path: A S OR AND of the accumulator a and the operand o; L
-unfoldable pub into_single : ℕ → ℕ → ℕ → Outcome
+unfoldable pub into_single : ℕ → ℕ → ℕ → Outcome ℕ
 into_single operation a o =
     select operation
     ((55, sum 16 a o) ∷
@@ -27,7 +28,7 @@ into_single operation a o =
     (plain 16 o)
 
 -- double_path: DA DS; DL
-unfoldable pub into_double : ℕ → ℕ → ℕ → Outcome
+unfoldable pub into_double : ℕ → ℕ → ℕ → Outcome ℕ
 into_double operation a o = select operation ((59, sum 32 a o) ∷ (67, difference 32 a o) ∷ []) (plain 32 o)
 
 -- the first of the two registers

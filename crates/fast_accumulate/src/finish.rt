@@ -1,5 +1,5 @@
 // How an operation with a fast path ends.
-ghost use Rattle.std.specs.Prelude.{◌≡◌, true, false, List, ℕ};
+ghost use Rattle.std.specs.Prelude.{◌≡◌, List, ℕ};
 ghost use Rattle.std.specs.Int.Bits.{bit_or};
 ghost use Rattle.machine.specs.State.{joined};
 ghost use Rattle.machine.specs.Machine.{Effect};
@@ -8,32 +8,16 @@ ghost use Rattle.fast_accumulate.specs.Ended.{ended_core};
 
 use crate::Ending;
 use machine::Core;
-use page::Refusal;
 use status_word::with_cs;
 
 // It is done: IC and CS are set and PI bits added, as by any effect that does so, whatever the registers were.
 pub fn done(core: Core, ic: u16, cs: u16, bits: u16) -> Ending
-    ensures { (result.clear ≡ true) × ((regs : List ℕ) (e : Effect) → e.ic ≡ ic → e.cs ≡ cs → e.pi ≡ bit_or core.pi bits
-        → joined (ended_core core result) e.regs ≡ affected (joined core regs) e) }
+    ensures { (regs : List ℕ) (e : Effect) → e.ic ≡ ic → e.cs ≡ cs → e.pi ≡ bit_or core.pi bits
+        → joined (ended_core core result) e.regs ≡ affected (joined core regs) e }
 {
     Ending {
-        clear: true,
-        fault: Refusal { ft: 0, mfs: 0 },
         ic,
         sw: with_cs(core.sw, cs),
         pi: core.pi | bits,
-    }
-}
-
-// It is refused; the core is as it was.
-pub fn refused(core: Core, b: Refusal) -> Ending
-    ensures { (result.clear ≡ false) × (result.fault ≡ b) × (ended_core core result ≡ core) }
-{
-    Ending {
-        clear: false,
-        fault: b,
-        ic: core.ic,
-        sw: core.sw,
-        pi: core.pi,
     }
 }

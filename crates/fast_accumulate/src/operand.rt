@@ -8,19 +8,19 @@ ghost use Rattle.operand_words.specs.Gathers.{gathered};
 
 use form_table::read_count;
 use machine::Instruction;
-use operand_words::{Gathered, gather};
-use page::Access;
+use operand_words::{Words, gather};
+use page::{Access, Refusal};
 
 // The words at the derived address that an operation with a path of its own reads, checked and read: as many as it needs, and none where the mode has its operand elsewhere.
 pub fn read_operand(
     key: u16,
     group: u16,
     memory: &[u16],
-    pages: &[u16],
+    pages: &[u16; 512],
     n: Instruction,
     number: u32,
-) -> Gathered
-    requires { (length pages.now ≡ 512) × (group < 16) × (number ≡ number_of n.form) × (0 < path_of (operation_of n.form)) }
+) -> Result<Words, Refusal>
+    requires { (group < 16) × (number ≡ number_of n.form) × (0 < path_of (operation_of n.form)) }
     ensures { (k : ℕ) → need_of (operation_of n.form) % 4 ≡ k
         → result ≡ gathered (checked key group pages.now (length memory.now) (at_operand n k) Access.Read)
         (words_of key group pages.now (length memory.now) (at_operand n k) memory.now) }

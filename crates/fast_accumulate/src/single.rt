@@ -1,45 +1,35 @@
 // One word into the accumulator: L A S OR AND (5.38, 5.55, 5.63, 5.81, 5.82).
 ghost use Rattle.std.specs.Prelude.{◌≡◌, length};
-ghost use Rattle.fixed_add.specs.Fixed.{single};
 ghost use Rattle.decode.specs.Forms.{operation_of};
 ghost use Rattle.machine.specs.State.{Keyed, joined};
 ghost use Rattle.form_table.specs.FormNumbers.{path_of, word_path, number_of};
-ghost use Rattle.fast_accumulate.specs.Paths.{plain, into_single};
-ghost use Rattle.fast_accumulate.specs.Ended.{Ended, ended_core};
+ghost use Rattle.fast_accumulate.specs.Paths.{into_single};
+ghost use Rattle.fast_accumulate.specs.Ended.{Ended};
 
 use crate::Ending;
-use crate::finish::{done, refused};
+use crate::finish::done;
 use crate::operand::read_operand;
+use crate::plain::plain;
 use addressing::fields::{get, put};
 use addressing::modes::{accumulator_of, operand_of};
 use bits::logic::{and, or};
 use effect::{fixed_overflow, following};
-use fixed_add::Single;
-use fixed_add::sums::{add16, sub16};
+use fixed_add::Outcome;
+use fixed_add::sums::{add, sub};
 use machine::{Core, Instruction};
-use word::status::status16;
-
-// A word as it is, and its status.
-fn plain16(x: u16) -> Single
-    ensures { result ≡ single (plain 16 x) }
-{
-    Single {
-        value: x,
-        cs: status16(x),
-        overflow: false,
-    }
-}
+use page::Refusal;
 
 // What the accumulator a and the operand o come to.
-fn combine16(operation: u16, a: u16, o: u16) -> Single
-    ensures { result ≡ single (into_single operation a o) }
+fn combine16(operation: u16, a: u16, o: u16) -> Outcome<u16>
+    ensures { result ≡ into_single operation a o }
 {
+    // by the number of its paragraph, as `isa/Execute: executed` goes
     match operation {
-        55 => add16(a, o),
-        63 => sub16(a, o),
-        81 => plain16(or(a, o)),
-        82 => plain16(and(a, o)),
-        _ => plain16(o),
+        55 => add(a, o),
+        63 => sub(a, o),
+        81 => plain(or(a, o)),
+        82 => plain(and(a, o)),
+        _ => plain(o),
     }
 }
 
@@ -50,21 +40,17 @@ pub fn into_single(
     group: u16,
     regs: &mut [u16; 16],
     memory: &[u16],
-    pages: &[u16],
+    pages: &[u16; 512],
     n: Instruction,
     number: u32,
-) -> Ending
-    requires { (length pages.now ≡ 512) × Keyed core.sw key group × (path_of (operation_of n.form) ≡ word_path)
-        × (number ≡ number_of n.form) }
-    ensures { Ended (joined core regs.old) memory.now pages.now n result.clear result.fault (joined (ended_core core result) regs.new) memory.now }
+) -> Result<Ending, Refusal>
+    requires { Keyed core.sw key group × (path_of (operation_of n.form) ≡ word_path) × (number ≡ number_of n.form) }
+    ensures { Ended (joined core regs.old) memory.now pages.now n result regs.new memory.now }
 {
-    let g = read_operand(key, group, memory, pages, n, number);
-    if g.clear {
-        let k = accumulator_of(n);
-        let s = combine16(n.form % 256, get(regs, k), operand_of(regs, n, g.x));
-        put(regs, k, s.value);
-        let bits = fixed_overflow(s.overflow);
-        return done(core, following(n), s.cs, bits);
-    }
-    refused(core, g.fault)
+    let g = read_operand(key, group, memory, pages, n, number)?;
+    let k = accumulator_of(n);
+    let s = combine16(n.form % 256, get(regs, k), operand_of(regs, n, g.x));
+    put(regs, k, s.value);
+    let bits = fixed_overflow(s.overflow);
+    Ok(done(core, following(n), s.cs, bits))
 }

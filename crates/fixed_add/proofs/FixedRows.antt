@@ -6,12 +6,13 @@ use lib.Dec.{T, eqb}
 use Rattle.choice.proofs.Rows.{all_of}
 use Rattle.twos_complement.specs.Whole.{signed, wrap, holds}
 use Rattle.word.specs.Status.{status, with_carry}
-use Rattle.fixed_add.specs.Fixed.{Outcome, outcome_of, sum, absolute, difference, negated}
+use Rattle.fixed_add.specs.declared.Outcome.{Outcome}
+use Rattle.fixed_add.specs.Fixed.{outcome_of, sum, absolute, difference, negated}
 
 -- what is computed, and what it must be: the value, the condition status, and overflow
 pub data Row : Type 0 where
   cs : ℕ → ℕ → Row
-  one : Outcome → ℕ → ℕ → Bool → Row
+  one : Outcome ℕ → ℕ → ℕ → Bool → Row
 
 pub right : Row → Bool
 right (cs s c) = eqb s c

@@ -11,7 +11,8 @@ use borrow.Author.Tests.{lt-ltb, le-leb, lt-leb, eq-eqb, ne_eqb, leb-true, eqb-t
 use Rattle.twos_complement.specs.Whole.{signed, holds}
 use Rattle.twos_complement.proofs.Diff.{order, pos-diff, diff-neg, diff-add, diff-sub, diff-negate}
 use Rattle.twos_complement.proofs.Laws.{half, signed_low, signed_high, holds-yes, holds-low, holds-high}
-use Rattle.fixed_add.specs.Fixed.{Outcome, outcome_of, sum, absolute, difference, negated}
+use Rattle.fixed_add.specs.declared.Outcome.{Outcome}
+use Rattle.fixed_add.specs.Fixed.{outcome_of, sum, absolute, difference, negated}
 use Rattle.fixed_add.proofs.SumLaws.{sum-value, difference-value, absolute-high}
 
 -- bit 0 of w bits, the sign
@@ -161,5 +162,5 @@ module _ (w a : ℕ) (p : 1 ≤ w) (l : a < 2 ^ w) where
   pub absolute-overflow : (absolute w a).overflow ≡ eqb a (2 ^ (w - 1))
   absolute-overflow =
       ⊎_elim (λ x. absolute-below x ∙ sym (ne_eqb a (2 ^ (w - 1)) (λ e. omega arith)))
-      (λ x. ap (λ (o : Outcome). o.overflow) (sym (absolute-high w a x)) ∙ negated-overflow)
+      (λ x. ap (λ (o : Outcome ℕ). o.overflow) (sym (absolute-high w a x)) ∙ negated-overflow)
       (order a (2 ^ (w - 1)))

@@ -4,18 +4,11 @@
 pub mod narrow;
 pub mod sums;
 
-// What an operation gives at 16 bits: the bits of its result, its condition status, and whether fixed point overflow sets PI bit 4.
+// What an operation gives: the bits of its result, its condition status, and whether fixed point overflow sets PI bit 4. The value counts in both cases
+// (`fixed_add/Fixed: outcome_of`), so it is no Option.
 #[derive(Clone, Copy)]
-pub struct Single {
-    pub value: u16,
-    pub cs: u16,
-    pub overflow: bool,
-}
-
-// The same at 32 bits.
-#[derive(Clone, Copy)]
-pub struct Double {
-    pub value: u32,
+pub struct Outcome<W> {
+    pub value: W,
     pub cs: u16,
     pub overflow: bool,
 }

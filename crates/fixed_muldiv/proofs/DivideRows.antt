@@ -6,14 +6,15 @@ use lib.Dec.{T, eqb}
 use Rattle.choice.proofs.Rows.{all_of}
 use Rattle.twos_complement.specs.Whole.{signed, wrap, holds}
 use Rattle.word.specs.Status.{status, with_carry}
-use Rattle.fixed_add.specs.Fixed.{Outcome, outcome_of}
+use Rattle.fixed_add.specs.declared.Outcome.{Outcome}
+use Rattle.fixed_add.specs.Fixed.{outcome_of}
 use Rattle.fixed_muldiv.specs.declared.Quotient.{Quotient}
 use Rattle.fixed_muldiv.specs.Divide.{product, long_product, division, divided, long_divided, quotient}
 
 -- what is computed, and what it must be: the value, or quotient and remainder, the condition status, and overflow
 pub data Row : Type 0 where
-  one : Outcome → ℕ → ℕ → Bool → Row
-  two : Quotient → ℕ → ℕ → ℕ → Bool → Row
+  one : Outcome ℕ → ℕ → ℕ → Bool → Row
+  two : Quotient ℕ → ℕ → ℕ → ℕ → Bool → Row
 
 pub right : Row → Bool
 right (one x v c o) = eqb x.value v && eqb x.cs c && beq x.overflow o

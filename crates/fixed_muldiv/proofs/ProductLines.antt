@@ -13,7 +13,8 @@ use Rattle.twos_complement.specs.Whole.{wrap, holds, with_sign}
 use Rattle.twos_complement.proofs.Diff.{order}
 use Rattle.twos_complement.proofs.Laws.{half}
 use Rattle.twos_complement.proofs.Signs.{differ, join-pos, join-neg, join-zero, long-pos, long-neg}
-use Rattle.fixed_add.specs.Fixed.{Outcome, outcome_of}
+use Rattle.fixed_add.specs.declared.Outcome.{Outcome}
+use Rattle.fixed_add.specs.Fixed.{outcome_of}
 use Rattle.fixed_add.proofs.SumLines.{bit0}
 use Rattle.fixed_muldiv.specs.Divide.{product, long_product}
 use Rattle.fixed_muldiv.proofs.PartsLaws.{Split, split, held}
@@ -74,8 +75,8 @@ module _ (w a b : ℕ) (p : 1 ≤ w) (la : a < 2 ^ w) (lb : b < 2 ^ w) where
         eqb (P / M) 0 ≡ z → eqb (P / M) (M - 1) ≡ f → bit0 w (P % M) ≡ r → o ≡ printed (not d) z f r (eqb m 0) (eqb n 0) → (product w a b).overflow ≡ line
     unfolding outcome_of
     product-by d P o z f r ed eP eo ez ef er e =
-        let v : (long_product w a b).value ≡ P = ap (λ (q : Outcome). q.value) (sym (long-product-is x.parts y.parts)) ∙ ap (λ (c : Bool). wrap (w + w) (with_sign c (m * n))) ed ∙ eP in
-        ap (λ (q : Outcome). q.overflow) (sym (product_is x.parts y.parts)) ∙ ap (λ (c : Bool). not (holds w (with_sign c (m * n)))) ed ∙ eo ∙ e
+        let v : (long_product w a b).value ≡ P = ap (λ (q : Outcome ℕ). q.value) (sym (long-product-is x.parts y.parts)) ∙ ap (λ (c : Bool). wrap (w + w) (with_sign c (m * n))) ed ∙ eP in
+        ap (λ (q : Outcome ℕ). q.overflow) (sym (product_is x.parts y.parts)) ∙ ap (λ (c : Bool). not (holds w (with_sign c (m * n)))) ed ∙ eo ∙ e
         ∙ sym (rw (x.sign, y.sign, back (beq s t) d ed, v, ez, ef, er, ← x.none, ← y.none) refl)
 
     square : 2 ^ (w + w) ≡ M * M
@@ -162,4 +163,4 @@ module _ (w a b : ℕ) (p : 1 ≤ w) (la : a < 2 ^ w) (lb : b < 2 ^ w) where
   unfolding outcome_of
   long-product-overflow =
       split w a p la (λ s m x. split w b p lb (λ t n y.
-      ap (λ (q : Outcome). q.overflow) (sym (long-product-is x.parts y.parts)) ∙ held (w + w) (m * n) (differ s t) (long_lt x.parts.small y.parts.small)))
+      ap (λ (q : Outcome ℕ). q.overflow) (sym (long-product-is x.parts y.parts)) ∙ held (w + w) (m * n) (differ s t) (long_lt x.parts.small y.parts.small)))

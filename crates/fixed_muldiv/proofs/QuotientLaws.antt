@@ -10,8 +10,8 @@ use borrow.Author.Tests.{eq-eqb, ne_eqb}
 use Rattle.twos_complement.specs.Whole.{with_sign, Parts}
 use Rattle.twos_complement.proofs.Signs.{nat_abs-sign, differ, quot-sign, rem-sign}
 use Rattle.word.specs.Status.{with_carry}
-use Rattle.fixed_add.specs.declared.Single.{Single}
-use Rattle.fixed_add.specs.Fixed.{Outcome, single, outcome_of}
+use Rattle.fixed_add.specs.declared.Outcome.{Outcome}
+use Rattle.fixed_add.specs.Fixed.{outcome_of}
 use Rattle.fixed_muldiv.specs.declared.Quotient.{Quotient}
 use Rattle.fixed_muldiv.specs.Divide.{division, divided, long_divided, quotient}
 
@@ -28,10 +28,10 @@ rem_of : (s t : Bool) (m k : ℕ) → (k ≡ 0 → ⊥) → rem_z (with_sign s m
 rem_of s t m zero p = absurd (p refl)
 rem_of s t m (suc k) p = rem-sign s t m k
 
-pub division-is : (w : ℕ) (s t : Bool) (m k : ℕ) {q r : Single} → (k ≡ 0 → ⊥) →
-    q ≡ single (outcome_of w false (with_sign (differ s t) (m / k))) → r ≡ single (outcome_of w false (with_sign s (m % k))) →
+pub division-is : (w : ℕ) (s t : Bool) (m k : ℕ) {q r : Outcome ℕ} → (k ≡ 0 → ⊥) →
+    q ≡ outcome_of w false (with_sign (differ s t) (m / k)) → r ≡ outcome_of w false (with_sign s (m % k)) →
     record { quotient = q.value; remainder = r.value; cs = q.cs; overflow = q.overflow } ≡ division w (with_sign s m) (with_sign t k)
-unfolding division single outcome_of with_carry
+unfolding division outcome_of with_carry
 division-is w s t m k p eq er = rw (eq, er, nat_abs-sign t k, ne_eqb k 0 p, quot-of s t m k p, rem_of s t m k p)
 
 -- the quotient of two numbers, from their parts
@@ -43,7 +43,7 @@ module _ {w a b m k : ℕ} {s t : Bool} (x : Parts w a s m) (y : Parts w b t k) 
   unfolding divided
   divided-is = sym (ap₂ (division w) x.number y.number)
 
-  kept : Quotient → Outcome
+  kept : Quotient ℕ → Outcome ℕ
   kept q = record { value = q.quotient; cs = q.cs; overflow = q.overflow }
 
   pub quotient-zero : k ≡ 0 → record { value = 0; cs = 2; overflow = true } ≡ quotient w a b
@@ -51,10 +51,10 @@ module _ {w a b m k : ℕ} {s t : Bool} (x : Parts w a s m) (y : Parts w b t k) 
   quotient-zero e = ap kept (division-zero w (with_sign s m) t k e ∙ divided-is)
 
   pub quotient_is : (k ≡ 0 → ⊥) → outcome_of w false (with_sign (differ s t) (m / k)) ≡ quotient w a b
-  unfolding quotient kept single
+  unfolding quotient kept
   quotient_is p = ap kept (division-is w s t m k p refl refl ∙ divided-is)
 
-pub long-divided-is : {w n d i m k : ℕ} {s t u : Bool} {q : Quotient} → Parts (w + w) n s m → Parts w d t k → Parts w (n / 2 ^ w) u i →
+pub long-divided-is : {w n d i m k : ℕ} {s t u : Bool} {q : Quotient ℕ} → Parts (w + w) n s m → Parts w d t k → Parts w (n / 2 ^ w) u i →
     q ≡ division w (with_sign s m) (with_sign t k) → record { quotient = q.quotient; remainder = q.remainder; cs = q.cs; overflow = leb k i } ≡ long_divided w n d
 unfolding long_divided
 long-divided-is x y h e = rw (e, ← x.number, ← y.number, y.size, h.size)

@@ -13,7 +13,8 @@ use Rattle.twos_complement.specs.Whole.{signed, holds, with_sign, Parts}
 use Rattle.twos_complement.proofs.Diff.{order}
 use Rattle.twos_complement.proofs.Laws.{half, signed_low}
 use Rattle.twos_complement.proofs.Signs.{differ, long-pos, long-neg, parts_low, parts-high}
-use Rattle.fixed_add.specs.Fixed.{Outcome, outcome_of}
+use Rattle.fixed_add.specs.declared.Outcome.{Outcome}
+use Rattle.fixed_add.specs.Fixed.{outcome_of}
 use Rattle.fixed_muldiv.specs.Divide.{divided, long_divided, quotient}
 use Rattle.fixed_muldiv.proofs.PartsLaws.{split, held}
 use Rattle.fixed_muldiv.proofs.QuotientLaws.{quotient-zero, quotient_is}
@@ -29,13 +30,13 @@ module _ (w a b : ℕ) (p : 1 ≤ w) (la : a < 2 ^ w) (lb : b < 2 ^ w) where
 
   by_zero : b ≡ 0 → (divided w a b).overflow ≡ true
   unfolding quotient
-  by_zero e = split w a p la (λ s m x. ap (λ (q : Outcome). q.overflow) (sym (quotient-zero x.parts (parts_low w b (let g = pow_pos (w - 1) in omega arith)) e)))
+  by_zero e = split w a p la (λ s m x. ap (λ (q : Outcome ℕ). q.overflow) (sym (quotient-zero x.parts (parts_low w b (let g = pow_pos (w - 1) in omega arith)) e)))
 
   by-other : {s t : Bool} {m k : ℕ} (o u v : Bool) → Parts w a s m → Parts w b t k → 0 < b → 0 < k → not (holds w (with_sign (differ s t) (m / k))) ≡ o →
       eqb a lowest ≡ u → eqb b (2 ^ w - 1) ≡ v → o ≡ (u && v) → (divided w a b).overflow ≡ (eqb b 0 || (eqb a lowest && eqb b (2 ^ w - 1)))
   unfolding quotient outcome_of
   by-other o u v x y n g eo eu ev e =
-      ap (λ (q : Outcome). q.overflow) (sym (quotient_is x y (λ z. omega arith))) ∙ eo ∙ e ∙ sym (rw (ne_eqb b 0 (λ z. omega arith), eu, ev) refl)
+      ap (λ (q : Outcome ℕ). q.overflow) (sym (quotient_is x y (λ z. omega arith))) ∙ eo ∙ e ∙ sym (rw (ne_eqb b 0 (λ z. omega arith), eu, ev) refl)
 
   -- the lowest dividend
   module _ (n : 0 < b) (e : a ≡ lowest) where

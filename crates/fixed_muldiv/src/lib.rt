@@ -5,11 +5,11 @@ pub mod parts;
 pub mod products;
 pub mod quotients;
 
-// What a division gives at 16 bits; the condition status is that of the quotient.
+// What a division gives; the condition status is that of the quotient. With an overflow too the words count (`fixed_muldiv/Divide: division`), so it is no Option.
 #[derive(Clone, Copy)]
-pub struct Quotient {
-    pub quotient: u16,
-    pub remainder: u16,
+pub struct Quotient<W> {
+    pub quotient: W,
+    pub remainder: W,
     pub cs: u16,
     pub overflow: bool,
 }

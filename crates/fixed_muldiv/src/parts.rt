@@ -1,10 +1,11 @@
-// Whole numbers by sign and magnitude, and their results at 16 and at 32 bits.
+// Whole numbers by sign and magnitude, and their results at the width of a word.
 ghost use Rattle.std.specs.Prelude.{◌≡◌, false, ◌<◌};
 ghost use Rattle.twos_complement.specs.Whole.{Parts, with_sign};
-ghost use Rattle.fixed_add.specs.Fixed.{single, double, outcome_of};
+ghost use Rattle.fixed_add.specs.Fixed.{numbered, outcome_of};
 
-use fixed_add::narrow::{narrow16, narrow32};
-use fixed_add::{Double, Single};
+use fixed_add::Outcome;
+use fixed_add::narrow::narrow;
+use word::width::Word;
 
 // A whole number as a sign and a magnitude.
 #[derive(Clone, Copy)]
@@ -13,55 +14,32 @@ pub(crate) struct Magnitude {
     pub size: u32,
 }
 
-// The sign and the magnitude of 16 bits.
-pub(crate) fn split16(a: u16) -> Magnitude
-    ensures { Parts 16 a result.neg result.size }
+// The sign and the magnitude of a word.
+pub(crate) fn split<W: Word>(a: W) -> Magnitude
+    ensures { Parts W.WIDTH (W.number a) result.neg result.size }
 {
-    if a < 0x8000 {
-        return Magnitude {
+    let n = a.number();
+    if n < W::SIGN {
+        Magnitude {
             neg: false,
-            size: a as u32,
-        };
-    }
-    Magnitude {
-        neg: true,
-        size: 0x1_0000 - a as u32,
+            size: n as u32,
+        }
+    } else {
+        Magnitude {
+            neg: true,
+            size: (2 * W::SIGN - n) as u32,
+        }
     }
 }
 
-// The sign and the magnitude of 32 bits.
-pub(crate) fn split32(a: u32) -> Magnitude
-    ensures { Parts 32 a result.neg result.size }
-{
-    if a < 0x8000_0000 {
-        return Magnitude {
-            neg: false,
-            size: a,
-        };
-    }
-    Magnitude {
-        neg: true,
-        size: (0x1_0000_0000 - a as u64) as u32,
-    }
-}
-
-// The 16-bit result of a sign and a magnitude.
-pub(crate) fn join16(neg: bool, size: u32) -> Single
-    ensures { result ≡ single (outcome_of 16 false (with_sign neg size)) }
+// The result of a sign and a magnitude. A product of two magnitudes is at most 2^30 at 16 bits, and 2^62 at 32.
+pub(crate) fn join<W: Word>(neg: bool, size: u64) -> Outcome<W>
+    requires { size < W.OFFSET }
+    ensures { numbered W.number result ≡ outcome_of W.WIDTH false (with_sign neg size) }
 {
     if neg {
-        return narrow16(0x1_0000_0000 - size as u64, false);
+        narrow(W::OFFSET - size, false)
+    } else {
+        narrow(size + W::OFFSET, false)
     }
-    narrow16(size as u64 + 0x1_0000_0000, false)
-}
-
-// The 32-bit result of a sign and a magnitude. A product of two magnitudes is at most 2^62.
-pub(crate) fn join32(neg: bool, size: u64) -> Double
-    requires { size < 0x8000_0000_0000_0000 }
-    ensures { result ≡ double (outcome_of 32 false (with_sign neg size)) }
-{
-    if neg {
-        return narrow32(0x8000_0000_0000_0000 - size, false);
-    }
-    narrow32(size + 0x8000_0000_0000_0000, false)
 }

@@ -1,6 +1,7 @@
 -- Two wrong answers of each contract that other crates call, beside the right one, which the checker computes. Assumes nothing.
 use Prim.Native.Nat.{ℕ, ◌-◌, ◌%◌, ◌^◌}
-use mathlib.Core.Bool.{true, false, not}
+use Rattle.std.specs.Prelude.{Some, None}
+use mathlib.Core.Bool.{not}
 use mathlib.Core.List.{List, [], ◌∷◌}
 use lib.Dec.{T, eqb}
 use lib.IntN.{ℤ, nat_abs, sub_ℕ}
@@ -10,12 +11,13 @@ use Rattle.twos_complement.specs.Whole.{signed, wrap}
 use Rattle.twos_complement.specs.Normal.{normal, moves, distance}
 use Rattle.word.specs.Status.{status}
 use Rattle.float.specs.declared.Float.{Float}
-use Rattle.float.specs.Float.{is_zero, float_zero, normalised, given}
+use Rattle.float.specs.declared.FloatFault.TheVariants.{Overflow, Underflow}
+use Rattle.float.specs.Float.{is_zero, float_zero, normalised, given, overflows, underflows}
 use Rattle.float.specs.Words.{mantissa24, mantissa40, exponent_of, first_word, second_word, third_word}
 
 -- the mantissa, the exponent, overflow and underflow
 abbrev pub parts : Float → List ℕ
-parts f = f.mantissa ∷ f.exponent ∷ flag f.overflow ∷ flag f.underflow ∷ []
+parts f = f.mantissa ∷ f.exponent ∷ flag (overflows f.fault) ∷ flag (underflows f.fault) ∷ []
 
 -- a whole number: whether it is not below zero, and its magnitude
 abbrev whole : ℤ → List ℕ
@@ -28,11 +30,11 @@ excess x = whole (sub_ℕ x (2 ^ (24 - 1)))
 pub rows : List Row
 rows =
     -- zero: the exponent 80 instead of 0; no underflow
-    some (parts (record { mantissa = 0; exponent = 128; overflow = false; underflow = true })) (0 ∷ 128 ∷ 0 ∷ 1 ∷ []) (0 ∷ 0 ∷ 0 ∷ 1 ∷ []) (0 ∷ 128 ∷ 0 ∷ 0 ∷ [])
+    some (parts (record { mantissa = 0; exponent = 128; fault = Some Underflow })) (0 ∷ 128 ∷ 0 ∷ 1 ∷ []) (0 ∷ 0 ∷ 0 ∷ 1 ∷ []) (0 ∷ 128 ∷ 0 ∷ 0 ∷ [])
     -- extreme: the exponent -1 instead of 7F; underflow
-    ∷ some (parts (record { mantissa = 0x7F_FFFF; exponent = 255; overflow = true; underflow = false })) (0x7F_FFFF ∷ 255 ∷ 1 ∷ 0 ∷ []) (0x7F_FFFF ∷ 127 ∷ 1 ∷ 0 ∷ []) (0x7F_FFFF ∷ 255 ∷ 0 ∷ 1 ∷ [])
+    ∷ some (parts (record { mantissa = 0x7F_FFFF; exponent = 255; fault = Some Overflow })) (0x7F_FFFF ∷ 255 ∷ 1 ∷ 0 ∷ []) (0x7F_FFFF ∷ 127 ∷ 1 ∷ 0 ∷ []) (0x7F_FFFF ∷ 255 ∷ 0 ∷ 1 ∷ [])
     -- plain: overflow; the exponent without the 128
-    ∷ some (parts (record { mantissa = 0x40_0000; exponent = 129; overflow = false; underflow = false })) (0x40_0000 ∷ 129 ∷ 0 ∷ 0 ∷ []) (0x40_0000 ∷ 129 ∷ 1 ∷ 0 ∷ []) (0x40_0000 ∷ 1 ∷ 0 ∷ 0 ∷ [])
+    ∷ some (parts (record { mantissa = 0x40_0000; exponent = 129; fault = None })) (0x40_0000 ∷ 129 ∷ 0 ∷ 0 ∷ []) (0x40_0000 ∷ 129 ∷ 1 ∷ 0 ∷ []) (0x40_0000 ∷ 1 ∷ 0 ∷ 0 ∷ [])
     -- gap: the exponents exchanged; the distance both ways
     ∷ some ((130 - 128) ∷ (128 - 130) ∷ []) (2 ∷ 0 ∷ []) (0 ∷ 2 ∷ []) (2 ∷ 2 ∷ [])
     -- mantissa::half: the weight of the bit after the sign; twice the weight of the sign

@@ -75,6 +75,13 @@ fixed-done v n z e before r t l s q =
     let f = le-ltb (n + 127) e l in
     (rw f (q ∙ ap (λ (k : ℕ). k % 2 ^ n) s ∙ wrap-wrap v n (quot_z z (pos (2 ^ (v + n + 127 - e))))), sym f, subst (λ (k : ℕ). k < 2 ^ n) (sym q) (mod-lt t (pow_pos n)))
 
+-- at the width w
+pub fixed-width : (n w : ℕ) (z : ℤ) (e before r t : ℕ) → 8 + n ≡ w → e ≤ n + 127 → t ≡ wrap w (quot_z z (pos (2 ^ (w + 127 - e)))) → r ≡ t % 2 ^ n →
+    (r ≡ fixed_of n w z e before) × (false ≡ too_large n e) × (r < 2 ^ n)
+fixed-width n w z e before r t q =
+    subst (λ (k : ℕ). e ≤ n + 127 → t ≡ wrap k (quot_z z (pos (2 ^ (k + 127 - e)))) → r ≡ t % 2 ^ n → (r ≡ fixed_of n k z e before) × (false ≡ too_large n e) × (r < 2 ^ n))
+    q (fixed-done 8 n z e before r t)
+
 pub fixed-fits : (n r t : ℕ) → n ≤ 32 → r ≡ t % 2 ^ n → r < 2 ^ 32
 fixed-fits n r t l q = let m = mod-lt t (pow_pos n) in let b : 2 ^ n ≤ 2 ^ 32 = pow_mono {i = n} {j = 32} l in omega arith
 

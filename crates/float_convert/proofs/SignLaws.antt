@@ -1,6 +1,8 @@
 -- The negative and the absolute value of a float with a mantissa of any width w, one law for each answer of the code. Assumes nothing.
+use Rattle.std.specs.Prelude.{Some, None}
+use Rattle.float.specs.declared.FloatFault.TheVariants.{Overflow, Underflow}
 use mathlib.Core.Path.{◌≡◌, refl, sym, ap, ◌∙◌}
-use mathlib.Core.Bool.{true, false}
+use mathlib.Core.Bool.{false}
 use mathlib.Core.Logic.{⊎_elim}
 use Prim.Native.Nat.{ℕ, suc, ◌+◌, ◌-◌, ◌*◌, ◌%◌, ◌^◌, ◌≤◌, ◌<◌}
 use native.Mathlib.Nat.{mod-eq_of_lt, zero-mod, add-mul-mod_self_right}
@@ -54,45 +56,45 @@ module _ (w : ℕ) (p : 2 ≤ w) where
         ∙ wrap-diff w (2 ^ w - m + k * 2 ^ w) 1 ∙ add-mul-mod_self_right (2 ^ w - m) k (2 ^ w)
 
     module _ (e : ℕ) where
-      pub negate-extreme : m ≡ 2 ^ (w - 1) → e ≡ 255 → Is w (2 ^ (w - 1) - 1) 255 true false (negated_of w (signed w m) e)
+      pub negate-extreme : m ≡ 2 ^ (w - 1) → e ≡ 255 → Is w (2 ^ (w - 1) - 1) 255 (Some Overflow) (negated_of w (signed w m) e)
       unfolding negated_of overflowed wrap
       negate-extreme s f =
           let t = half w one in
           let g = pow_pos (w - 1) in
-          rw (is-minus-one, eq-eqb _ _ s, eq-eqb _ _ f) (record { bits = sym (mod-eq_of_lt (omega arith)); exponent = refl; overflow = refl; underflow = refl })
+          rw (is-minus-one, eq-eqb _ _ s, eq-eqb _ _ f) (record { bits = sym (mod-eq_of_lt (omega arith)); exponent = refl; fault = refl })
 
-      pub negate-up : m ≡ 2 ^ (w - 1) → (e ≡ 255 → ⊥) → Is w (2 ^ (w - 2)) (e + 1) false false (negated_of w (signed w m) e)
+      pub negate-up : m ≡ 2 ^ (w - 1) → (e ≡ 255 → ⊥) → Is w (2 ^ (w - 2)) (e + 1) None (negated_of w (signed w m) e)
       unfolding negated_of kept one_half wrap
       negate-up s f =
           let t = half w one in
           let u = halves in
           let g = pow_pos (w - 2) in
           rw (is-minus-one, is-one-half, eq-eqb _ _ s, ne_eqb _ _ f, ne_eqb m (2 ^ (w - 2)) (λ x. omega arith))
-          (record { bits = sym (mod-eq_of_lt (omega arith)); exponent = refl; overflow = refl; underflow = refl })
+          (record { bits = sym (mod-eq_of_lt (omega arith)); exponent = refl; fault = refl })
 
       module _ (s : m ≡ 2 ^ (w - 2)) where
         other : eqb m (2 ^ (w - 1)) ≡ false
         other = let u = halves in let g = pow_pos (w - 2) in ne_eqb m (2 ^ (w - 1)) (λ x. omega arith)
 
-        pub negate_zero : e ≡ 0 → Is w 0 128 false true (negated_of w (signed w m) e)
+        pub negate_zero : e ≡ 0 → Is w 0 128 (Some Underflow) (negated_of w (signed w m) e)
         unfolding negated_of float_zero wrap
-        negate_zero f = rw (is-minus-one, is-one-half, other, eq-eqb _ _ s, eq-eqb _ _ f) (record { bits = sym (zero-mod (2 ^ w)); exponent = refl; overflow = refl; underflow = refl })
+        negate_zero f = rw (is-minus-one, is-one-half, other, eq-eqb _ _ s, eq-eqb _ _ f) (record { bits = sym (zero-mod (2 ^ w)); exponent = refl; fault = refl })
 
-        pub negate-down : (e ≡ 0 → ⊥) → Is w (2 ^ (w - 1)) (e - 1) false false (negated_of w (signed w m) e)
+        pub negate-down : (e ≡ 0 → ⊥) → Is w (2 ^ (w - 1)) (e - 1) None (negated_of w (signed w m) e)
         unfolding negated_of kept minus_one wrap
         negate-down f =
             let t = half w one in
             let g = pow_pos (w - 1) in
             let r : (2 ^ (w - 1) - 1) % 2 ^ w ≡ 2 ^ (w - 1) - 1 = mod-eq_of_lt (omega arith) in
-            rw (is-minus-one, is-one-half, other, eq-eqb _ _ s, ne_eqb _ _ f) (record { bits = omega arith; exponent = refl; overflow = refl; underflow = refl })
+            rw (is-minus-one, is-one-half, other, eq-eqb _ _ s, ne_eqb _ _ f) (record { bits = omega arith; exponent = refl; fault = refl })
 
-      pub negate-else : (m ≡ 2 ^ (w - 1) → ⊥) → (m ≡ 2 ^ (w - 2) → ⊥) → Is w ((2 ^ w - m) % 2 ^ w) e false false (negated_of w (signed w m) e)
+      pub negate-else : (m ≡ 2 ^ (w - 1) → ⊥) → (m ≡ 2 ^ (w - 2) → ⊥) → Is w ((2 ^ w - m) % 2 ^ w) e None (negated_of w (signed w m) e)
       unfolding negated_of kept
-      negate-else s f = rw (is-minus-one, is-one-half, ne_eqb _ _ s, ne_eqb _ _ f) (record { bits = sym wrap-negate; exponent = refl; overflow = refl; underflow = refl })
+      negate-else s f = rw (is-minus-one, is-one-half, ne_eqb _ _ s, ne_eqb _ _ f) (record { bits = sym wrap-negate; exponent = refl; fault = refl })
 
-      pub absolute-low : m < 2 ^ (w - 1) → Is w m e false false (absolute_of w (signed w m) e)
+      pub absolute-low : m < 2 ^ (w - 1) → Is w m e None (absolute_of w (signed w m) e)
       unfolding absolute_of kept
-      absolute-low s = rw (signed_low w m s) (record { bits = sym (ap (wrap w) (sym (signed_low w m s)) ∙ wrap-signed w m l); exponent = refl; overflow = refl; underflow = refl })
+      absolute-low s = rw (signed_low w m s) (record { bits = sym (ap (wrap w) (sym (signed_low w m s)) ∙ wrap-signed w m l); exponent = refl; fault = refl })
 
       pub absolute-high : 2 ^ (w - 1) ≤ m → negated_of w (signed w m) e ≡ absolute_of w (signed w m) e
       unfolding absolute_of

@@ -13,19 +13,19 @@ pub rows : List Row
 rows =
     -- compare::compare: equal, without the bit lost by the alignment; below, by the exponents
     one (compared_of (signed 24 0x40_0001) 128 (signed 24 0x20_0000) 129) 4 2 1
-    -- convert::fix24: -1.5 truncated toward minus infinity; what the register held before
+    -- convert::fix: -1.5 truncated toward minus infinity; what the register held before
     ∷ some (fixed_of 16 24 (signed 24 0xA0_0000) 129 0x1234 ∷ flag (too_large 16 129) ∷ []) (0xFFFF ∷ 0 ∷ []) (0xFFFE ∷ 0 ∷ []) (0x1234 ∷ 0 ∷ [])
-    -- convert::fix40: 2^31 without overflow; the register cleared
+    -- convert::fix: 2^31 without overflow; the register cleared
     ∷ some (fixed_of 32 40 (signed 40 0x40_0000_0000) 160 0x1234_5678 ∷ flag (too_large 32 160) ∷ []) (0x1234_5678 ∷ 1 ∷ []) (0x8000_0000 ∷ 0 ∷ []) (0 ∷ 1 ∷ [])
-    -- convert::float24: not normalised; twice as large
+    -- convert::from_integer: not normalised; twice as large
     ∷ some (parts (given 24 (float_of 16 24 (signed 16 1)))) (0x40_0000 ∷ 129 ∷ 0 ∷ 0 ∷ []) (0x00_0100 ∷ 143 ∷ 0 ∷ 0 ∷ []) (0x40_0000 ∷ 130 ∷ 0 ∷ 0 ∷ [])
-    -- convert::float40: -1 as -0.5 times 2; without a sign
+    -- convert::from_integer: -1 as -0.5 times 2; without a sign
     ∷ some (parts (given 40 (float_of 32 40 (signed 32 0xFFFF_FFFF))))
     (0x80_0000_0000 ∷ 128 ∷ 0 ∷ 0 ∷ []) (0xC0_0000_0000 ∷ 129 ∷ 0 ∷ 0 ∷ []) (0x7F_FFFF_FF80 ∷ 160 ∷ 0 ∷ 0 ∷ [])
-    -- sign::negate24: 0.5 as -0.5, not normalised; the exponent kept
+    -- sign::negate: 0.5 as -0.5, not normalised; the exponent kept
     ∷ some (parts (given 24 (negated_of 24 (signed 24 0x40_0000) 128)))
     (0x80_0000 ∷ 127 ∷ 0 ∷ 0 ∷ []) (0xC0_0000 ∷ 128 ∷ 0 ∷ 0 ∷ []) (0x80_0000 ∷ 128 ∷ 0 ∷ 0 ∷ [])
-    -- sign::absolute24: -1.0 with the exponent 7F as 0.5 with 80; kept
+    -- sign::absolute: -1.0 with the exponent 7F as 0.5 with 80; kept
     ∷ some (parts (given 24 (absolute_of 24 (signed 24 0x80_0000) 255)))
     (0x7F_FFFF ∷ 255 ∷ 1 ∷ 0 ∷ []) (0x40_0000 ∷ 256 ∷ 0 ∷ 0 ∷ []) (0x80_0000 ∷ 255 ∷ 0 ∷ 0 ∷ [])
     ∷ []

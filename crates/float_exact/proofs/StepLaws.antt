@@ -1,4 +1,5 @@
 -- Laws of the steps that multiply and divide share, with a mantissa of any width w. Assumes nothing.
+use Rattle.std.specs.Prelude.{None}
 use mathlib.Core.Path.{◌≡◌, refl, sym, ap, ◌∙◌, subst}
 use mathlib.Core.Bool.{Bool, true, false}
 use mathlib.Core.Logic.{⊎_elim}
@@ -16,11 +17,11 @@ use Rattle.twos_complement.proofs.Diff.{order}
 use Rattle.twos_complement.proofs.Laws.{half, signed_low, signed_high}
 use Rattle.twos_complement.proofs.Normal.{leading_wider}
 use Rattle.twos_complement.proofs.Signs.{parts_low, parts-high}
-use Rattle.float.specs.Float.{overflowed, float_zero, given}
+use Rattle.float.specs.Float.{overflowed, float_zero, given, fault_of}
 use Rattle.float_exact.specs.Steps.{Led, signed_by, tail, ranged}
 
 -- floating zero, as the code gives it
-pub zero-given : (u : Bool) → record { mantissa = 0; exponent = 128; overflow = false; underflow = u } ≡ given 40 (float_zero u)
+pub zero-given : (u : Bool) → record { mantissa = 0; exponent = 128; fault = fault_of false u } ≡ given 40 (float_zero u)
 unfolding given wrap float_zero
 zero-given u = refl
 
@@ -122,10 +123,10 @@ module _ (w m p n : ℕ) (s : Bool) where
         small : m % 2 ^ w ≡ m
         small = let hw = half w o in mod-eq_of_lt (omega arith)
 
-        pub ranged-neg : s ≡ true → record { mantissa = 2 ^ w - 1 - m; exponent = p - n; overflow = false; underflow = false } ≡ given w (ranged w (signed_by s m) p n)
+        pub ranged-neg : s ≡ true → record { mantissa = 2 ^ w - 1 - m; exponent = p - n; fault = None } ≡ given w (ranged w (signed_by s m) p n)
         unfolding given signed_by wrap
-        ranged-neg e = rw (← ranged-at, e, small) (ap (λ (x : ℕ). record { mantissa = x; exponent = p - n; overflow = false; underflow = false }) (let t : 2 ^ w - 1 - m ≡ 2 ^ w - suc m = omega arith in t))
+        ranged-neg e = rw (← ranged-at, e, small) (ap (λ (x : ℕ). record { mantissa = x; exponent = p - n; fault = None }) (let t : 2 ^ w - 1 - m ≡ 2 ^ w - suc m = omega arith in t))
 
-        pub ranged-pos : s ≡ false → record { mantissa = m; exponent = p - n; overflow = false; underflow = false } ≡ given w (ranged w (signed_by s m) p n)
+        pub ranged-pos : s ≡ false → record { mantissa = m; exponent = p - n; fault = None } ≡ given w (ranged w (signed_by s m) p n)
         unfolding given signed_by wrap
         ranged-pos e = rw (← ranged-at, e, small) refl

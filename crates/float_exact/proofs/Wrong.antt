@@ -1,4 +1,5 @@
 -- Two wrong answers of each contract that other crates call, beside the right one, which the checker computes. Assumes nothing.
+use Rattle.std.specs.Prelude.{None}
 use Prim.Native.Nat.{◌+◌, ◌-◌, ◌*◌, ◌/◌, ◌^◌}
 use mathlib.Core.Bool.{true, false}
 use mathlib.Core.List.{List, [], ◌∷◌}
@@ -32,7 +33,7 @@ rows =
     -- wider: not moved; moved by its own width
     ∷ one (0x40_0012 * 2 ^ (40 - 24)) 0x40_0012_0000 0x40_0012 0x4000_1200_0000
     -- upper: the last 24 bits; the first 16 bits
-    ∷ some (parts (upper (40 - 24) (record { mantissa = 0x40_0012_5678; exponent = 130; overflow = false; underflow = false }))) (0x40_0012 ∷ 130 ∷ 0 ∷ 0 ∷ []) (0x12_5678 ∷ 130 ∷ 0 ∷ 0 ∷ []) (0x4000 ∷ 130 ∷ 0 ∷ 0 ∷ [])
+    ∷ some (parts (upper (40 - 24) (record { mantissa = 0x40_0012_5678; exponent = 130; fault = None }))) (0x40_0012 ∷ 130 ∷ 0 ∷ 0 ∷ []) (0x12_5678 ∷ 130 ∷ 0 ∷ 0 ∷ []) (0x4000 ∷ 130 ∷ 0 ∷ 0 ∷ [])
     ∷ []
 
 pub rows-hold : T (hold rows)

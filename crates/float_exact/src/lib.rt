@@ -1,5 +1,4 @@
 // What floating point multiply and divide share, on the 40 bits of a mantissa in a u64: sign and magnitude, and the normalised, truncated result.
-// A mantissa is below 2^40 in all callers, as they have it from 40 bits or from `wider`; a width is 24 or 40.
 #![tactic(auto)]
 
 ghost use Rattle.std.specs.Prelude.{◌≡◌, ◌+◌, ◌-◌, ◌*◌, ◌/◌, ◌^◌, ◌≤◌, ◌<◌, nat_abs};
@@ -8,24 +7,24 @@ ghost use Rattle.float.specs.Float.{overflowed, given};
 ghost use Rattle.float_exact.specs.Exact.{signs_differ};
 ghost use Rattle.float_exact.specs.Steps.{one_if, Led, signed_by, tail, ranged, upper};
 
-use float::{Float, extreme, plain, zero};
+use float::mantissa::Mantissa;
+use float::{Float, FloatFault, extreme, plain, zero};
 
 // Whether the first bits of two mantissas differ.
-pub fn signs_differ(a: u64, b: u64) -> bool
-    ensures { result ≡ signs_differ (signed 40 a) (signed 40 b) }
+pub fn signs_differ(a: Mantissa<40>, b: Mantissa<40>) -> bool
+    ensures { result ≡ signs_differ (signed 40 a.bits) (signed 40 b.bits) }
 {
-    (a < 0x80_0000_0000) != (b < 0x80_0000_0000)
+    (a.bits < 0x80_0000_0000) != (b.bits < 0x80_0000_0000)
 }
 
 // The magnitude of a mantissa.
-pub fn magnitude(a: u64) -> u64
-    requires { a < 2 ^ 40 }
-    ensures { result ≡ nat_abs (signed 40 a) }
+pub fn magnitude(a: Mantissa<40>) -> u64
+    ensures { result ≡ nat_abs (signed 40 a.bits) }
 {
-    if a < 0x80_0000_0000 {
-        return a;
+    if a.bits < 0x80_0000_0000 {
+        return a.bits;
     }
-    0x100_0000_0000 - a
+    0x100_0000_0000 - a.bits
 }
 
 // A number after a left move, and how far it moved.
@@ -36,9 +35,9 @@ pub struct Moved {
 }
 
 // The magnitude of a mantissa that is not 0, moved to the top of 40 bits.
-pub fn lead(a: u64) -> Moved
-    requires { (0 < a) × (a < 2 ^ 40) }
-    ensures { Led 40 (nat_abs (signed 40 a)) result.shift result.value }
+pub fn lead(a: Mantissa<40>) -> Moved
+    requires { 0 < a.bits }
+    ensures { Led 40 (nat_abs (signed 40 a.bits)) result.shift result.value }
 {
     let m = magnitude(a);
     let shift = u64::leading_zeros(m) - 24;
@@ -50,10 +49,7 @@ pub fn lead(a: u64) -> Moved
 pub fn one_if(b: bool) -> u32
     ensures { result ≡ one_if b }
 {
-    if b {
-        return 1;
-    }
-    0
+    b as u32
 }
 
 // The largest positive number, or the smallest negative one.
@@ -74,7 +70,7 @@ pub fn finish(neg: bool, q: u64, p: u32, n: u32) -> Float
 {
     let t = 25 - u64::leading_zeros(q);
     if p + t < n {
-        return zero(true);
+        return zero(Some(FloatFault::Underflow));
     }
     let e = p + t - n;
     if 255 < e {
@@ -87,23 +83,24 @@ pub fn finish(neg: bool, q: u64, p: u32, n: u32) -> Float
     plain(m, e)
 }
 
-// A mantissa of w bits with zeros after it, up to 40.
-pub fn wider(w: u32, a: u64) -> u64
-    requires { (w ≤ 40) × (a < 2 ^ w) }
-    ensures { (result ≡ a * 2 ^ (40 - w)) × (result < 2 ^ 40) }
+// A mantissa of W bits with zeros after it, up to 40.
+pub fn wider<const W: u32>(a: Mantissa<W>) -> Mantissa<40>
+    requires { W ≤ 40 }
+    ensures { result.bits ≡ a.entry.bits * 2 ^ (40 - W) }
 {
-    a << (40 - w)
+    Mantissa {
+        bits: a.bits << (40 - W),
+    }
 }
 
-// The float with the first w of the 40 bits of a mantissa.
-pub fn upper(w: u32, f: Float) -> Float
-    requires { w ≤ 40 }
-    ensures { result ≡ upper (40 - w) f }
+// The float with the first W of the 40 bits of a mantissa.
+pub fn upper<const W: u32>(f: Float) -> Float
+    requires { W ≤ 40 }
+    ensures { result ≡ upper (40 - W) f }
 {
     Float {
-        mantissa: f.mantissa >> (40 - w),
+        mantissa: f.mantissa >> (40 - W),
         exponent: f.exponent,
-        overflow: f.overflow,
-        underflow: f.underflow,
+        fault: f.fault,
     }
 }

@@ -1,4 +1,4 @@
-// Floating point multiply, on the 24 or 40 bits of a mantissa in a u64 and the standard's exponent plus 128: callers have both from the words of a float.
+// Floating point multiply.
 #![tactic(auto)]
 
 ghost use Rattle.std.specs.Prelude.{◌≡◌, ◌-◌, ◌*◌, ◌/◌, ◌^◌, ◌≤◌, ◌<◌};
@@ -7,7 +7,7 @@ ghost use Rattle.float.specs.Float.{given};
 ghost use Rattle.float_exact.specs.Steps.{one_if};
 ghost use Rattle.float_mul.specs.Multiply.{product_of};
 
-use float::{Float, zero};
+use float::{Float, FloatFault, Operand, zero};
 use float_exact::{finish, largest, lead, one_if, signs_differ, upper, wider};
 
 // a * b, less 1 where neg, without its last 20 bits, for two magnitudes at the top of 40 bits: by two digits of a, so that each product is below 2^60.
@@ -20,36 +20,39 @@ fn product(a: u64, b: u64, neg: bool) -> u64
 }
 
 // The product with a mantissa of 40 bits.
-fn multiply40(a: u64, ea: u32, b: u64, eb: u32) -> Float
-    requires { (a < 2 ^ 40) × (ea < 256) × (b < 2 ^ 40) × (eb < 256) }
-    ensures { result ≡ given 40 (product_of 40 (signed 40 a) ea (signed 40 b) eb) }
+fn multiply40(a: Operand<40>, b: Operand<40>) -> Float
+    ensures { result ≡ given 40 (product_of 40 (signed 40 a.mantissa.bits) a.exponent (signed 40 b.mantissa.bits) b.exponent) }
 {
-    let neg = signs_differ(a, b);
-    let n = ea + eb;
+    let neg = signs_differ(a.mantissa, b.mantissa);
+    let n = a.exponent + b.exponent;
     if 383 < n {
         return largest(neg);
     }
     if n < 128 {
-        return zero(true);
+        return zero(Some(FloatFault::Underflow));
     }
-    let nothing = zero(false);
-    if a == 0 {
-        return nothing;
+    if a.mantissa.bits == 0 || b.mantissa.bits == 0 {
+        return zero(None);
     }
-    if b == 0 {
-        return nothing;
-    }
-    let x = lead(a);
-    let y = lead(b);
+    let x = lead(a.mantissa);
+    let y = lead(b.mantissa);
     // q lacks 20 bits of the product, whose last place is 40 + 127 places above that of the exponent 0
     let q = product(x.value, y.value, neg);
     finish(neg, q, n, x.shift + y.shift + 147)
 }
 
-// The product with a mantissa of w bits (5.74, 5.75): the upper part of that with 40.
-pub fn multiply(w: u32, a: u64, ea: u32, b: u64, eb: u32) -> Float
-    requires { (2 ≤ w) × (w ≤ 40) × (a < 2 ^ w) × (b < 2 ^ w) × (ea < 256) × (eb < 256) }
-    ensures { result ≡ given w (product_of w (signed w a) ea (signed w b) eb) }
+// The product with a mantissa of W bits (5.74, 5.75): the upper part of that with 40.
+pub fn multiply<const W: u32>(a: Operand<W>, b: Operand<W>) -> Float
+    requires { W ≤ 40 }
+    ensures { result ≡ given W (product_of W (signed W a.entry.mantissa.bits) a.entry.exponent (signed W b.entry.mantissa.bits) b.entry.exponent) }
 {
-    upper(w, multiply40(wider(w, a), ea, wider(w, b), eb))
+    let x = Operand {
+        mantissa: wider(a.mantissa),
+        exponent: a.exponent,
+    };
+    let y = Operand {
+        mantissa: wider(b.mantissa),
+        exponent: b.exponent,
+    };
+    upper::<W>(multiply40(x, y))
 }

@@ -5,7 +5,9 @@ use lib.Dec.{T}
 use Rattle.choice.specs.Table.{table_of}
 use Rattle.choice.proofs.Rows.{Row, one, some, hold}
 use Rattle.machine.proofs.Opened.{machinery}
-use Rattle.image.specs.declared.Loading.TheVariants.{Accepted, BadMemory, BadPages, BadPorts, NoCount, ManyEntries, ShortTable, BadKind, BadRange, SharedWord, BadBodies}
+use Rattle.std.specs.Prelude.{Ok, Err, map}
+use Rattle.machine.specs.declared.SizeError.TheVariants.{BadMemory, BadPages, BadPorts}
+use Rattle.image.specs.declared.LoadError.TheVariants.{BadSize, NoCount, ManyEntries, ShortTable, BadKind, BadRange, SharedWord, BadBodies}
 use Rattle.image.specs.Image.{word_at, count_of, entry_at, number_of, admission}
 use Rattle.image.proofs.Opened.{images}
 
@@ -33,8 +35,7 @@ rows =
     (0x0C0D ∷ 0x0E0F1011 ∷ 0x12131415 ∷ []) (0x0203 ∷ 0x04050607 ∷ 0x08090A0B ∷ []) (0x0C0D ∷ 0x12131415 ∷ 0x0E0F1011 ∷ [])
     -- questions::number: an image of more than 64 entries is answered by 6, as one without the two bytes of their number; words outside the target are 11, and a shared word is 10
     ∷ some
-    (number_of Accepted ∷ number_of BadMemory ∷ number_of BadPages ∷ number_of BadPorts ∷ number_of NoCount ∷ number_of ManyEntries ∷ number_of ShortTable ∷
-    number_of BadKind ∷ number_of BadRange ∷ number_of SharedWord ∷ number_of BadBodies ∷ [])
+    (number_of (Ok tt) ∷ map (λ e. number_of (Err e)) (BadSize BadMemory ∷ BadSize BadPages ∷ BadSize BadPorts ∷ NoCount ∷ ManyEntries ∷ ShortTable ∷ BadKind ∷ BadRange ∷ SharedWord ∷ BadBodies ∷ []))
     (0 ∷ 1 ∷ 2 ∷ 3 ∷ 6 ∷ 7 ∷ 8 ∷ 9 ∷ 10 ∷ 11 ∷ 12 ∷ []) (0 ∷ 1 ∷ 2 ∷ 3 ∷ 6 ∷ 6 ∷ 8 ∷ 9 ∷ 10 ∷ 11 ∷ 12 ∷ []) (0 ∷ 1 ∷ 2 ∷ 3 ∷ 6 ∷ 7 ∷ 8 ∷ 9 ∷ 11 ∷ 10 ∷ 12 ∷ [])
     -- questions::check: an image of no bytes is refused by 6; one byte alone is accepted
     ∷ some (asked_of [] ∷ asked_of (0 ∷ []) ∷ asked_of (0 ∷ 0 ∷ []) ∷ asked_of (0 ∷ 1 ∷ []) ∷ []) (0 ∷ 6 ∷ 0 ∷ 8 ∷ []) (6 ∷ 6 ∷ 0 ∷ 8 ∷ []) (0 ∷ 0 ∷ 0 ∷ 8 ∷ [])

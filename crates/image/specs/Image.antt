@@ -1,14 +1,16 @@
 -- Loading an image (Scope, "Image" and "Questions at the door"). An image b is the list of its bytes. Assumes nothing.
-use Rattle.std.specs.Prelude.{ℕ, zero, suc, ◌+◌, ◌*◌, Bool, false, not, cond, ◌&&◌, ◌||◌, List, [], ◌∷◌, ◌≡◌, eqb, leb, ltb, length, get_or}
+use Rattle.std.specs.Prelude.{ℕ, zero, suc, ◌+◌, ◌*◌, ◌<◌, ◌⊎◌, Bool, false, not, cond, ◌&&◌, ◌||◌, List, [], ◌∷◌, ◌≡◌, Result, Ok, Err, MatchResult, ⊤, is_ok, eqb, leb, ltb, length, get_or}
 use Rattle.std.proofs.lemmas.List.Edits.{sets}
 use Rattle.machine.specs.declared.State.{State}
 use Rattle.machine.specs.declared.Core.{Core}
 use Rattle.machine.specs.State.{with_regs, with_core, with_ic, with_sw, with_mk, with_pi, with_ft}
 use Rattle.machine.specs.Machine.{Machine, machine, Became}
-use Rattle.machine.specs.Runs.{whole_pages, asked}
+use Rattle.machine.specs.Runs.{size_number, asked, asked_all, sizes_answer, answer_in, state_in}
 use Rattle.image.specs.declared.Entry.{Entry}
-use Rattle.image.specs.declared.Loading.{Loading}
-use Rattle.image.specs.declared.Loading.TheVariants.{Accepted, BadMemory, BadPages, BadPorts, NoCount, ManyEntries, ShortTable, BadKind, BadRange, SharedWord, BadBodies}
+use Rattle.image.specs.declared.Target.{Target}
+use Rattle.image.specs.declared.Target.TheVariants.{Memory, Pages, Registers, Control}
+use Rattle.image.specs.declared.LoadError.{LoadError}
+use Rattle.image.specs.declared.LoadError.TheVariants.{BadSize, NoCount, ManyEntries, ShortTable, BadKind, BadRange, SharedWord, BadBodies}
 use Rattle.reset.specs.Reset.{reset_machine}
 
 -- ---- the parts of an image, most significant byte first
@@ -53,23 +55,36 @@ words_from b i (suc n) = word_at b i ∷ words_from b (i + 2) n
 
 -- ---- the questions, in their order
 
+-- the answer to loading: the image is loaded, or what the first question answered by "no" was about
+abbrev pub Answer : Type 0
+Answer = Result ⊤ LoadError
+
 -- the Scope's number of an answer; 0: the image is loaded
-abbrev pub number_of : Loading → ℕ
-number_of Accepted = 0
-number_of BadMemory = 1
-number_of BadPages = 2
-number_of BadPorts = 3
-number_of NoCount = 6
-number_of ManyEntries = 7
-number_of ShortTable = 8
-number_of BadKind = 9
-number_of BadRange = 10
-number_of SharedWord = 11
-number_of BadBodies = 12
+abbrev pub number_of : Answer → ℕ
+number_of (Ok u) = 0
+number_of (Err (BadSize e)) = size_number e
+number_of (Err NoCount) = 6
+number_of (Err ManyEntries) = 7
+number_of (Err ShortTable) = 8
+number_of (Err BadKind) = 9
+number_of (Err BadRange) = 10
+number_of (Err SharedWord) = 11
+number_of (Err BadBodies) = 12
 
 -- several questions: on to the rest unless one of them was answered by "no"
-unfoldable pub unless_refused : Loading → Loading → Loading
-unless_refused a rest = cond (eqb (number_of a) 0) rest a
+unfoldable pub unless_refused : Answer → Answer → Answer
+unless_refused (Ok u) rest = rest
+unless_refused (Err e) rest = Err e
+
+-- the kind of a target, and what is known of the target that is found for a kind: there is none for those below 1 and above 4
+abbrev pub kind_of : Target → ℕ
+kind_of Memory = 1
+kind_of Pages = 2
+kind_of Registers = 3
+kind_of Control = 4
+
+abbrev pub Aims : ℕ → Result Target LoadError → Type 0
+Aims kind r = MatchResult r (λ t. kind_of t ≡ kind) (λ e. (e ≡ BadKind) × ((kind < 1) ⊎ (4 < kind)))
 
 -- the words of the target of a kind: memory of the given size, page registers, R0 to R15, or the five words of kind 4
 unfoldable pub target_size : ℕ → ℕ → ℕ
@@ -90,41 +105,38 @@ shares_earlier b e (suc k) = share e (entry_at b k) || shares_earlier b e k
 
 module _ (memory : ℕ) (b : List ℕ) where
   -- the questions to entry k
-  unfoldable pub entry_answer : ℕ → Loading
+  unfoldable pub entry_answer : ℕ → Answer
   entry_answer k =
       let e = entry_at b k in
       asked (leb 1 e.kind && leb e.kind 4) BadKind
       (asked (leb 1 e.words && leb (end_of e) (target_size memory e.kind)) BadRange
       (asked (not (shares_earlier b e k)) SharedWord
-      Accepted))
+      (Ok tt)))
 
   -- those to n entries, of which the first has the number k
-  unfoldable pub entries_answer : ℕ → ℕ → Loading
-  entries_answer zero k = Accepted
+  unfoldable pub entries_answer : ℕ → ℕ → Answer
+  entries_answer zero k = Ok tt
   entries_answer (suc n) k = unless_refused (entry_answer k) (entries_answer n (suc k))
 
   -- those to a table and its bodies
-  unfoldable pub table_answer : Loading
+  unfoldable pub table_answer : Answer
   table_answer =
       asked (leb (count_of b) 64) ManyEntries
       (asked (leb (table_end b) (length b)) ShortTable
       (unless_refused (entries_answer (count_of b) 0)
       (asked (eqb (length b) (body_at b (count_of b))) BadBodies
-      Accepted)))
+      (Ok tt))))
 
   -- those to an image: are there no bytes, or at least two? Where there are none, no more is asked (change request 1)
-  unfoldable pub image_answer : Loading
-  image_answer = asked (is_empty b || leb 2 (length b)) NoCount (cond (is_empty b) Accepted table_answer)
+  unfoldable pub image_answer : Answer
+  image_answer = asked (is_empty b || leb 2 (length b)) NoCount (cond (is_empty b) (Ok tt) table_answer)
 
 -- all of them, from the numbers of words, page registers and ports
-unfoldable pub admission : List ℕ → ℕ → ℕ → ℕ → Loading
+unfoldable pub admission : List ℕ → ℕ → ℕ → ℕ → Answer
 admission b memory pages ports =
-    asked (whole_pages memory) BadMemory
-    (asked (eqb pages 512) BadPages
-    (asked (eqb ports 1024) BadPorts
-    (image_answer memory b)))
+    asked_all BadSize (sizes_answer memory pages ports) (image_answer memory b)
 
-unfoldable pub answer_of : List ℕ → Machine → Loading
+unfoldable pub answer_of : List ℕ → Machine → Answer
 answer_of b x = admission b (length x.memory) (length x.pages) (length x.ports)
 
 -- ---- the bodies
@@ -162,9 +174,9 @@ module _ (b : List ℕ) where
 
   -- what loading leaves: a refusal changes nothing
   unfoldable pub after_loading : Machine → Machine
-  after_loading x = cond (eqb (number_of (answer_of b x)) 0) (loaded (length x.memory) (length x.pages) (length x.ports)) x
+  after_loading x = cond (is_ok (answer_of b x)) (loaded (length x.memory) (length x.pages) (length x.ports)) x
 
-  -- all that loading on the machine x hands back and leaves
-  pub record Outcome (x : Machine) (answer : Loading) (s : State) (memory pages ports : List ℕ) : Type 0 where
-    pub answer-is : answer ≡ answer_of b x
-    pub became : Became (after_loading x) s memory pages ports
+  -- all that loading on the machine x hands back and leaves: a refusal hands back no state, and its caller has the given one
+  pub record Outcome (x : Machine) (r : Result State LoadError) (memory pages ports : List ℕ) : Type 0 where
+    pub answer-is : answer_in r ≡ answer_of b x
+    pub became : Became (after_loading x) (state_in r x.state) memory pages ports

@@ -4,21 +4,12 @@ ghost use Rattle.image.specs.Image.{word_at, long_at, count_of, entry_at, words_
 
 use crate::Entry;
 
-// A byte as a word.
-fn wide(byte: u8) -> u16
-    ensures { (result ≡ byte) × (result < 256) }
-{
-    byte as u16
-}
-
 // The word of two bytes from byte i on. The image has them: callers have asked for its length, here and below.
 pub fn word_at(image: &[u8], i: usize) -> u16
     requires { i + 2 ≤ length image.now }
     ensures { result ≡ word_at image.now i }
 {
-    let high = wide(image[i]);
-    let low = wide(image[i + 1]);
-    256 * high + low
+    u16::from_be_bytes([image[i], image[i + 1]])
 }
 
 // The number of four bytes from byte i on.
@@ -26,7 +17,7 @@ fn long_at(image: &[u8], i: usize) -> u32
     requires { i + 4 ≤ length image.now }
     ensures { result ≡ long_at image.now i }
 {
-    65536 * (word_at(image, i) as u32) + word_at(image, i + 2) as u32
+    u32::from_be_bytes([image[i], image[i + 1], image[i + 2], image[i + 3]])
 }
 
 // The number of entries.
@@ -34,7 +25,7 @@ pub fn count(image: &[u8]) -> usize
     requires { 2 ≤ length image.now }
     ensures { (result ≡ count_of image.now) × (result < 65536) }
 {
-    word_at(image, 0) as usize
+    usize::from(word_at(image, 0))
 }
 
 // Entry k of the table.
@@ -53,7 +44,7 @@ pub fn entry_at(image: &[u8], k: usize) -> Entry
 pub(crate) fn end(e: Entry) -> u64
     ensures { result ≡ end_of e }
 {
-    e.start as u64 + e.words as u64
+    u64::from(e.start) + u64::from(e.words)
 }
 
 // The words of the first n bodies. No caller has more than 64, whose lengths of 32 bits do not wrap.
@@ -62,11 +53,8 @@ pub(crate) fn words_before(image: &[u8], n: usize) -> usize
     ensures { (result ≡ words_before image.now n) × (result ≤ 4294967296 * n) }
 {
     let mut total: usize = 0;
-    let mut k: usize = 0;
-    while k < n {
-        let e = entry_at(image, k);
-        total += e.words as usize;
-        k += 1;
+    for k in 0..n {
+        total += entry_at(image, k).words as usize;
     }
     total
 }

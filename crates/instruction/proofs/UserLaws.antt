@@ -1,4 +1,5 @@
 -- A user's operation: what it leaves, the words that it reads and writes, and what became of the machine. Assumes nothing.
+use Rattle.std.proofs.Common.{Result, Ok, Err}
 use Prim.Native.Nat.{ℕ, ◌+◌, ◌/◌, ◌%◌, ◌≤◌, ◌<◌}
 use mathlib.Core.Path.{◌≡◌, refl, sym, ap, ◌∙◌}
 use mathlib.Core.Bool.{Bool, true, false, cond, ◌&&◌, false≢true}
@@ -11,24 +12,19 @@ use Rattle.choice.specs.Select.{select}
 use Rattle.choice.proofs.TestLaws as tests
 use Rattle.page.specs.declared.Refusal.{Refusal}
 use Rattle.page.specs.declared.Access.TheVariants.{Fetch}
-use Rattle.page.specs.declared.Place.{Place}
-use Rattle.page.specs.declared.Place.TheVariants.{At, Refused}
-use Rattle.page.specs.declared.Got.{Got}
-use Rattle.page.specs.declared.Got.TheVariants.{Word, Missed}
 use Rattle.page.specs.declared.Span.{Span}
 use Rattle.page.specs.Pages.{lookup}
 use Rattle.page.specs.Spans.{wrapped, got_at}
 use Rattle.decode.specs.Forms.{length_of, mode_of, operation_of, privileged_operations}
+use Rattle.machine.specs.declared.Denial.{Denial}
 use Rattle.machine.specs.declared.State.{State}
 use Rattle.machine.specs.declared.Core.{Core}
 use Rattle.decode.specs.Decode.{decode_of}
 use Rattle.machine.specs.declared.Instruction.{Instruction}
-use Rattle.machine.specs.declared.Prepared.{Prepared}
-use Rattle.machine.specs.declared.Prepared.TheVariants.{Ready, Denied}
 use Rattle.machine.specs.declared.Class.TheVariants.{User}
 use Rattle.machine.specs.State.{key_of, group_of, Processor, joined, processor, with_processor, with_pi, with_sw, with_ic, advanced}
 use Rattle.machine.specs.Machine.{Became, Effect, span_from}
-use Rattle.machine.specs.Instructions.{affect, View, view, permitted, ready_at, redirected, derived, extended, granted, decoded, fetched, prepared}
+use Rattle.machine.specs.Instructions.{denial, affect, View, view, permitted, ready_at, redirected, derived, extended, granted, decoded, fetched, prepared}
 use Rattle.machine.specs.Step.{affected, stored, perform, timed_by, timing}
 use Rattle.isa.specs.Fields.{field_a, register}
 use Rattle.isa.specs.Addressing.{in_memory}
@@ -63,47 +59,47 @@ settled-by c d v regs regs' e n i h =
 
 -- ---- an instruction up to its accesses, from its first word on
 
-module _ (p : Processor) (m g : List ℕ) (key group : ℕ) (d : key ≡ key_of p.core.sw) (e : group ≡ group_of p.core.sw) (q : Place) (i : q ≡ lookup Fetch key group g (length m) p.core.ic) where
+module _ (p : Processor) (m g : List ℕ) (key group : ℕ) (d : key ≡ key_of p.core.sw) (e : group ≡ group_of p.core.sw) (q : Result ℕ Refusal) (i : q ≡ lookup Fetch key group g (length m) p.core.ic) where
   -- it was found at a
-  pub prepared-at : (a : ℕ) → q ≡ At a
+  pub prepared-at : (a : ℕ) → q ≡ Ok a
       → prepared mil1750 p (view p.core m g) ≡ decoded mil1750 p (view p.core m g) (decode_of (get_or m a 0)) (get_or m a 0) (eqb (decode_of (get_or m a 0)) 0)
   unfolding prepared fetched got_at mil1750
   prepared-at a h = rw (← d, ← e, ← i, h) refl
 
-  pub timing-at : (a : ℕ) → q ≡ At a → timing p.core (view p.core m g) false ≡ timed_by (Word (get_or m a 0))
+  pub timing-at : (a : ℕ) → q ≡ Ok a → timing p.core (view p.core m g) false ≡ timed_by (Ok (get_or m a 0))
   unfolding timing got_at
   timing-at a h = rw (← d, ← e, ← i, h) refl
 
   -- it was refused
-  pub timing-refused : (b : Refusal) → q ≡ Refused b → timing p.core (view p.core m g) false ≡ 256
+  pub timing-refused : (b : Refusal) → q ≡ Err b → timing p.core (view p.core m g) false ≡ 256
   unfolding timing timed_by got_at
   timing-refused b h = rw (← d, ← e, ← i, h) refl
 
-  pub prepared-refused : (b : Refusal) → q ≡ Refused b → prepared mil1750 p (view p.core m g) ≡ Denied b (wrapped (p.core.ic + 1))
+  pub prepared-refused : (b : Refusal) → q ≡ Err b → prepared mil1750 p (view p.core m g) ≡ Err (denial b (wrapped (p.core.ic + 1)))
   unfolding prepared fetched got_at mil1750 advanced
   prepared-refused b h = rw (← d, ← e, ← i, h) refl
 
 -- the form and the first word of an instruction that is ready, and d of one that is not
-abbrev formed : ℕ × ℕ → Prepared → ℕ × ℕ
-formed d (Ready n) = (n.form, n.first)
-formed d (Denied b a) = d
+abbrev formed : ℕ × ℕ → Result Instruction Denial → ℕ × ℕ
+formed d (Ok n) = (n.form, n.first)
+formed d (Err e) = d
 
 -- one that is ready has the form and the first word that it was prepared by
 module _ (p : Processor) (v : View) where
-  redirected-formed : (f w x : ℕ) (got : Got) → formed (f, w) (redirected p.core f w x got) ≡ (f, w)
+  redirected-formed : (f w x : ℕ) (got : Result ℕ Refusal) → formed (f, w) (redirected p.core f w x got) ≡ (f, w)
   unfolding redirected ready_at
-  redirected-formed f w x (Word a) = refl
-  redirected-formed f w x (Missed b) = refl
+  redirected-formed f w x (Ok a) = refl
+  redirected-formed f w x (Err b) = refl
 
   derived-formed : (f w x : ℕ) (b : Bool) → formed (f, w) (derived mil1750 p v f w x b) ≡ (f, w)
   unfolding derived ready_at
   derived-formed f w x false = refl
   derived-formed f w x true = redirected-formed f w x (v.read (mil1750.base (mode_of f) p w x))
 
-  extended-formed : (f w : ℕ) (got : Got) → formed (f, w) (extended mil1750 p v f w got) ≡ (f, w)
+  extended-formed : (f w : ℕ) (got : Result ℕ Refusal) → formed (f, w) (extended mil1750 p v f w got) ≡ (f, w)
   unfolding extended
-  extended-formed f w (Word x) = derived-formed f w x (eqb (mode_of f) 7)
-  extended-formed f w (Missed b) = refl
+  extended-formed f w (Ok x) = derived-formed f w x (eqb (mode_of f) 7)
+  extended-formed f w (Err b) = refl
 
   granted-formed : (f w : ℕ) (a b : Bool) → formed (f, w) (granted mil1750 p v f w a b) ≡ (f, w)
   unfolding granted
@@ -116,10 +112,10 @@ module _ (p : Processor) (v : View) where
   decoded-formed f w true = refl
   decoded-formed f w false = granted-formed f w (permitted (mil1750.class (operation_of f)) (key_of p.core.sw)) (eqb (length_of f) 2)
 
-  pub ready-form : (f w : ℕ) (b : Bool) (n : Instruction) → decoded mil1750 p v f w b ≡ Ready n → n.form ≡ f
+  pub ready-form : (f w : ℕ) (b : Bool) (n : Instruction) → decoded mil1750 p v f w b ≡ Ok n → n.form ≡ f
   ready-form f w b n h = ap (λ (d : ℕ × ℕ). d.0) (sym (ap (formed (f, w)) h) ∙ decoded-formed f w b)
 
-  pub ready-first : (f w : ℕ) (b : Bool) (n : Instruction) → decoded mil1750 p v f w b ≡ Ready n → n.first ≡ w
+  pub ready-first : (f w : ℕ) (b : Bool) (n : Instruction) → decoded mil1750 p v f w b ≡ Ok n → n.first ≡ w
   ready-first f w b n h = ap (λ (d : ℕ × ℕ). d.1) (sym (ap (formed (f, w)) h) ∙ decoded-formed f w b)
 
 -- ---- a user's operation

@@ -1,8 +1,8 @@
-// One instruction (Scope, "One step", 2 and 3), on a core and the registers lent beside it; key and group are those of its SW. Callers have
-// 512 page registers and 1,024 ports: a run asks for them. What is said here holds whatever the rest of the state is; a timer command is handed back undone.
+// One instruction (Scope, "One step", 2 and 3), on a core and the registers lent beside it; key and group are those of its SW. What is said here
+// holds whatever the rest of the state is; a timer command is handed back undone.
 #![tactic(auto)]
 
-ghost use Rattle.std.specs.Prelude.{◌≡◌, true, false, List, ℕ, ◌+◌, ◌/◌, ◌≤◌, ◌<◌, eqb, length, get_or};
+ghost use Rattle.std.specs.Prelude.{◌≡◌, ◌^◌, true, false, List, ℕ, ◌+◌, ◌/◌, ◌≤◌, ◌<◌, eqb, length, get_or, Ok};
 ghost use Rattle.page.specs.Pages.{lookup};
 ghost use Rattle.page.specs.Spans.{checked, words_of};
 ghost use Rattle.decode.specs.Forms.{operation_of};
@@ -26,26 +26,22 @@ use form_table::{decode_with, read_count, read_start, write_count, write_start};
 use instruction_prepare::prepare;
 use instruction_privileged::{command, executive, load};
 use instruction_retired::{Retired, deny, weighed};
-use machine::{Core, Instruction, Prepared};
+use machine::{Core, Instruction};
 use operand_spans::{reads, span_from, writes};
-use operand_words::{Gathered, gather};
+use operand_words::{Words, gather};
 use page::lookup::{check_span, look_up};
-use page::{Access, Place, Span, Verdict};
+use page::{Access, Refusal, Span};
 use status_word::{advance, group_of, key_of, update};
 
 // The first refusal: all reads, then all writes.
-fn verify(sw: u16, pages: &[u16], size: usize, from: Span, to: Span) -> Verdict
-    requires { length pages.now ≡ 512 }
+fn verify(sw: u16, pages: &[u16; 512], size: usize, from: Span, to: Span) -> Result<(), Refusal>
     ensures { result ≡ spec.both (checked (key_of sw) (group_of sw) pages.now size from Access.Read)
         (checked (key_of sw) (group_of sw) pages.now size to Access.Write) }
 {
     let key = key_of(sw);
     let group = group_of(sw);
-    let verdict = check_span(Access::Read, key, group, pages, size, from);
-    match verdict {
-        Verdict::Clear => check_span(Access::Write, key, group, pages, size, to),
-        Verdict::Fault(b) => Verdict::Fault(b),
-    }
+    check_span(Access::Read, key, group, pages, size, from)?;
+    check_span(Access::Write, key, group, pages, size, to)
 }
 
 // An operation on a block, word by word, with any ports: its accesses are checked before it changes anything.
@@ -53,19 +49,18 @@ fn carry_words(
     core: Core,
     regs: &mut [u16; 16],
     memory: &mut [u16],
-    pages: &[u16],
+    pages: &[u16; 512],
     n: Instruction,
 ) -> Retired
-    requires { (length pages.now ≡ 512) × (is_block (operation_of n.form) ≡ true) }
+    requires { is_block (operation_of n.form) ≡ true }
     ensures { (ports : List ℕ) → Performed (carrying n) core regs.old memory.old pages.now ports
         (n.first / 256) result regs.new memory.new pages.now ports }
 {
     let from = reads(regs, n);
     let to = writes(regs, n);
-    let verdict = verify(core.sw, pages, memory.len(), from, to);
-    match verdict {
-        Verdict::Clear => weighed(core.pi, block(core, regs, memory, pages, n, from)),
-        Verdict::Fault(b) => deny(core, b, advance(n.ic, n.form / 4096)),
+    match verify(core.sw, pages, memory.len(), from, to) {
+        Ok(()) => weighed(core.pi, block(core, regs, memory, pages, n, from)),
+        Err(b) => deny(core, b, advance(n.ic, n.form / 4096)),
     }
 }
 
@@ -76,18 +71,17 @@ fn carry_block(
     group: u16,
     regs: &mut [u16; 16],
     memory: &mut [u16],
-    pages: &[u16],
+    pages: &[u16; 512],
     n: Instruction,
 ) -> Retired
-    requires { (length pages.now ≡ 512) × (is_block (operation_of n.form) ≡ true) × Keyed core.sw key group }
+    requires { (is_block (operation_of n.form) ≡ true) × Keyed core.sw key group }
     ensures { (ports : List ℕ) → Performed (carrying n) core regs.old memory.old pages.now ports
         (n.first / 256) result regs.new memory.new pages.now ports }
 {
-    let tried = try_block(core, key, group, regs, memory, pages, n);
-    if tried.done {
-        return weighed(core.pi, tried.core);
+    match try_block(core, key, group, regs, memory, pages, n) {
+        Some(done) => weighed(core.pi, done),
+        None => carry_words(core, regs, memory, pages, n),
     }
-    carry_words(core, regs, memory, pages, n)
 }
 
 // A user's operation on at most three words, which have been read as g, with any ports: its stores are checked before it changes anything.
@@ -97,26 +91,23 @@ fn proceed(
     group: u16,
     regs: &mut [u16; 16],
     memory: &mut [u16],
-    pages: &[u16],
+    pages: &[u16; 512],
     n: Instruction,
-    g: Gathered,
+    g: Words,
     number: u32,
 ) -> Retired
-    requires { (length pages.now ≡ 512) × (is_block (operation_of n.form) ≡ false)
-        × FirstThree (words_of (key_of core.sw) (group_of core.sw) pages.now (length memory.old) (reads_of regs.old n) memory.old) g.x g.y g.z × Keyed core.sw key group
-        × (number ≡ number_of n.form) × (path_of (operation_of n.form) ≡ no_path) }
+    requires { (is_block (operation_of n.form) ≡ false) × FirstThree (words_of (key_of core.sw) (group_of core.sw) pages.now (length memory.old) (reads_of regs.old n) memory.old) g.x g.y g.z × Keyed core.sw key group × (number ≡ number_of n.form) × (path_of (operation_of n.form) ≡ no_path) }
     ensures { (ports : List ℕ) → Performed (λ m g o s. spec.accessed mil1750 s g o (spec.view s.core m g) n
         (checked (key_of s.core.sw) (group_of s.core.sw) g (length m) (writes_of s.regs n) Access.Write))
         core regs.old memory.old pages.now ports (n.first / 256) result regs.new memory.new pages.now ports }
 {
     let to = span_from(write_start(regs, n, number), write_count(n, number));
-    let verdict = check_span(Access::Write, key, group, pages, memory.len(), to);
-    match verdict {
-        Verdict::Clear => {
+    match check_span(Access::Write, key, group, pages, memory.len(), to) {
+        Ok(()) => {
             let done = work(core, regs, memory, pages, n, g.x, g.y, g.z, to);
             weighed(core.pi, done)
         }
-        Verdict::Fault(b) => deny(core, b, advance(n.ic, n.form / 4096)),
+        Err(b) => deny(core, b, advance(n.ic, n.form / 4096)),
     }
 }
 
@@ -127,20 +118,18 @@ fn carry_fast(
     group: u16,
     regs: &mut [u16; 16],
     memory: &mut [u16],
-    pages: &[u16],
+    pages: &[u16; 512],
     n: Instruction,
     number: u32,
 ) -> Retired
-    requires { (length pages.now ≡ 512) × Keyed core.sw key group
-        × (number ≡ number_of n.form) × (0x0080_0000 ≤ number) × (number < 0x0300_0000) }
+    requires { Keyed core.sw key group × (number ≡ number_of n.form) × (0x0080_0000 ≤ number) × (number < 0x0300_0000) }
     ensures { (ports : List ℕ) → Performed (carrying n) core regs.old memory.old pages.now ports
         (n.first / 256) result regs.new memory.new pages.now ports }
 {
-    let end = fast(core, key, group, regs, memory, pages, n, number);
-    if end.clear {
-        return weighed(core.pi, update(core, end.ic, end.sw, end.pi));
+    match fast(core, key, group, regs, memory, pages, n, number) {
+        Ok(end) => weighed(core.pi, update(core, end.ic, end.sw, end.pi)),
+        Err(b) => deny(core, b, advance(n.ic, n.form / 4096)),
     }
-    deny(core, end.fault, advance(n.ic, n.form / 4096))
 }
 
 // Any other user's operation, with any ports: its words are checked and read before it changes anything.
@@ -150,21 +139,19 @@ fn carry_ordinary(
     group: u16,
     regs: &mut [u16; 16],
     memory: &mut [u16],
-    pages: &[u16],
+    pages: &[u16; 512],
     n: Instruction,
     number: u32,
 ) -> Retired
-    requires { (length pages.now ≡ 512) × Keyed core.sw key group × (number ≡ number_of n.form)
-        × (is_block (operation_of n.form) ≡ false) × (path_of (operation_of n.form) ≡ no_path) }
+    requires { Keyed core.sw key group × (number ≡ number_of n.form) × (is_block (operation_of n.form) ≡ false) × (path_of (operation_of n.form) ≡ no_path) }
     ensures { (ports : List ℕ) → Performed (carrying n) core regs.old memory.old pages.now ports
         (n.first / 256) result regs.new memory.new pages.now ports }
 {
     let from = read_start(regs, n, number);
-    let g = gather(key, group, memory, pages, from, read_count(n, number));
-    if g.clear {
-        return proceed(core, key, group, regs, memory, pages, n, g, number);
+    match gather(key, group, memory, pages, from, read_count(n, number)) {
+        Ok(g) => proceed(core, key, group, regs, memory, pages, n, g, number),
+        Err(b) => deny(core, b, advance(n.ic, n.form / 4096)),
     }
-    deny(core, g.fault, advance(n.ic, n.form / 4096))
 }
 
 // An instruction that is ready, by its form number, whose ranges are the rules: its accesses are checked before it changes anything.
@@ -174,12 +161,12 @@ fn carry(
     group: u16,
     regs: &mut [u16; 16],
     memory: &mut [u16],
-    pages: &mut [u16],
-    ports: &mut [u16],
+    pages: &mut [u16; 512],
+    ports: &mut [u16; 1024],
     n: Instruction,
     number: u32,
 ) -> Retired
-    requires { (length pages.old ≡ 512) × (length ports.old ≡ 1024) × Keyed core.sw key group × (number ≡ number_of n.form) }
+    requires { Keyed core.sw key group × (number ≡ number_of n.form) }
     ensures { Performed (carrying n) core regs.old memory.old pages.old ports.old
         (n.first / 256) result regs.new memory.new pages.new ports.new }
 {
@@ -206,22 +193,20 @@ fn begin(
     group: u16,
     regs: &mut [u16; 16],
     memory: &mut [u16],
-    pages: &mut [u16],
-    ports: &mut [u16],
+    pages: &mut [u16; 512],
+    ports: &mut [u16; 1024],
     number: u32,
     w: u16,
     at: usize,
 ) -> Retired
-    requires { (length pages.old ≡ 512) × (length ports.old ≡ 1024) × Keyed core.sw key group × (number ≡ number_of (decode_of w))
-        × (lookup Access.Fetch key group pages.old (length memory.old) core.ic ≡ Place.At at) }
+    requires { Keyed core.sw key group × (number ≡ number_of (decode_of w)) × (lookup Access.Fetch key group pages.old (length memory.old) core.ic ≡ Ok at) }
     ensures { Performed (λ m g o s. spec.carried mil1750 s g o (spec.view s.core m g)
         (spec.decoded mil1750 (processor s) (spec.view s.core m g) (decode_of w) w (eqb (decode_of w) 0)))
         core regs.old memory.old pages.old ports.old (w / 256) result regs.new memory.new pages.new ports.new }
 {
-    let prepared = prepare(core, key, group, regs, memory, pages, number, w, at);
-    match prepared {
-        Prepared::Ready(n) => carry(core, key, group, regs, memory, pages, ports, n, number),
-        Prepared::Denied(b, a) => deny(core, b, a),
+    match prepare(core, key, group, regs, memory, pages, number, w, at) {
+        Ok(n) => carry(core, key, group, regs, memory, pages, ports, n, number),
+        Err(d) => deny(core, d.refusal, d.ic),
     }
 }
 
@@ -233,28 +218,26 @@ pub fn instruct(
     group: u16,
     regs: &mut [u16; 16],
     memory: &mut [u16],
-    pages: &mut [u16],
-    ports: &mut [u16],
+    pages: &mut [u16; 512],
+    ports: &mut [u16; 1024],
     table: &[u32; 256],
-    durations: &[u16],
+    durations: &[u16; 257],
     spent: &mut u64,
 ) -> Retired
-    requires { (length pages.old ≡ 512) × (length ports.old ≡ 1024) × (table.now ≡ numbers) × Keyed core.sw key group
-        × (length durations.now ≡ 257) × (spent.old < 281474976710656) }
+    requires { (table.now ≡ numbers) × Keyed core.sw key group × (spent.old < 2 ^ 48) }
     ensures { Performed obeying core regs.old memory.old pages.old ports.old
         (timing core (spec.view core memory.old pages.old) false) result regs.new memory.new pages.new ports.new
         × (spent.new ≡ spent.old + get_or durations.now (timing core (spec.view core memory.old pages.old) false) 0) }
 {
-    let first = look_up(Access::Fetch, key, group, pages, memory.len(), core.ic);
-    match first {
-        Place::At(at) => {
+    match look_up(Access::Fetch, key, group, pages, memory.len(), core.ic) {
+        Ok(at) => {
             let w = memory[at];
-            *spent = *spent + duration_of(durations, w);
+            *spent += duration_of(durations, w);
             let number = decode_with(table, w);
             begin(core, key, group, regs, memory, pages, ports, number, w, at)
         }
-        Place::Refused(b) => {
-            *spent = *spent + entry_duration(durations);
+        Err(b) => {
+            *spent += entry_duration(durations);
             deny(core, b, advance(core.ic, 1))
         }
     }

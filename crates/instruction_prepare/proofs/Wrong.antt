@@ -1,13 +1,14 @@
 -- Two wrong answers of each contract that other crates call, beside the right one, which the checker computes. Assumes nothing.
+use Rattle.std.proofs.Common.{Result, Ok, Err}
 use Prim.Native.Nat.{ℕ, ◌+◌}
 use mathlib.Core.List.{List, [], ◌∷◌}
 use lib.Dec.{T}
 use lib.ListN.{replicate}
 use Rattle.choice.specs.Table.{table_of}
 use Rattle.choice.proofs.Rows.{Row, some, hold}
+use Rattle.machine.specs.declared.Denial.{Denial}
+use Rattle.machine.specs.declared.Instruction.{Instruction}
 use Rattle.machine.specs.declared.State.{State}
-use Rattle.machine.specs.declared.Prepared.{Prepared}
-use Rattle.machine.specs.declared.Prepared.TheVariants.{Ready, Denied}
 use Rattle.machine.specs.State.{processor}
 use Rattle.machine.specs.Instructions.{view, prepared}
 use Rattle.machine.proofs.Opened.{machinery}
@@ -26,9 +27,9 @@ abbrev memory : List ℕ
 memory = 0 ∷ 0x8012 ∷ 5 ∷ 0 ∷ []
 
 -- an instruction's form, words and address; a refusal and the IC after it
-abbrev shown : Prepared → List ℕ
-shown (Ready n) = n.form ∷ n.first ∷ n.second ∷ n.address ∷ []
-shown (Denied b a) = b.ft ∷ b.mfs ∷ a ∷ []
+abbrev shown : Result Instruction Denial → List ℕ
+shown (Ok n) = n.form ∷ n.first ∷ n.second ∷ n.address ∷ []
+shown (Err d) = d.refusal.ft ∷ d.refusal.mfs ∷ d.ic ∷ []
 
 pub rows : List Row
 unfolding words decoder machinery instructions

@@ -1,20 +1,19 @@
 // An instruction up to its accesses (Scope, "One step", 2): fetch, decode, privilege, second word, derived address. Each stage is the
-// definition's, of a core and the registers lent beside it; key and group are those of its SW. Callers have 512 page registers:
-// a run asks for them.
+// definition's, of a core and the registers lent beside it; key and group are those of its SW.
 #![tactic(auto)]
 
-ghost use Rattle.std.specs.Prelude.{◌≡◌, true, cond, List, ℕ, ◌+◌, ◌%◌, ◌<◌, eqb, length};
+ghost use Rattle.std.specs.Prelude.{◌≡◌, true, cond, List, ℕ, ◌+◌, ◌%◌, ◌<◌, eqb, length, Ok};
 ghost use Rattle.page.specs.Pages.{lookup};
 ghost use Rattle.page.specs.Spans.{wrapped, got_at};
 ghost use Rattle.decode.specs.Forms.{length_of, mode_of};
 ghost use Rattle.machine.specs.State.{Keyed, joined};
-ghost use Rattle.machine.specs.Instructions.{view, permitted, ready_at, redirected, derived, granted, decoded};
+ghost use Rattle.machine.specs.Instructions.{view, permitted, denial, ready_at, redirected, derived, granted, decoded};
 ghost use Rattle.isa.specs.Mil1750.{class_of, mil1750};
 
 use decode::mode;
-use machine::{Class, Core, Instruction, Prepared};
+use machine::{Class, Core, Denial, Instruction};
 use page::lookup::refuse;
-use page::{Access, Got, Place, Refusal};
+use page::{Access, Refusal};
 use status_word::advance;
 use storage::read::read_word;
 
@@ -26,6 +25,7 @@ fn class_of(operation: u16) -> Class
     if 35 < operation {
         return Class::User;
     }
+    // by the number of its paragraph, as `isa/Execute: executed` goes
     match operation {
         30 => Class::Executive,
         1 => Class::Supervisor,
@@ -45,11 +45,24 @@ fn permit(class: Class, key: u16) -> bool
     }
 }
 
+// It is not: its fault, and the IC after it.
+fn denied(refusal: Refusal, ic: u16) -> Denial
+    ensures { result ≡ denial refusal ic }
+{
+    Denial { refusal, ic }
+}
+
 // The instruction is ready.
-fn ready(core: Core, form: u16, first: u16, second: u16, address: u16) -> Prepared
+fn ready(
+    core: Core,
+    form: u16,
+    first: u16,
+    second: u16,
+    address: u16,
+) -> Result<Instruction, Denial>
     ensures { result ≡ ready_at core form first second address }
 {
-    Prepared::Ready(Instruction {
+    Ok(Instruction {
         ic: core.ic,
         form,
         first,
@@ -59,12 +72,18 @@ fn ready(core: Core, form: u16, first: u16, second: u16, address: u16) -> Prepar
 }
 
 // The word read at an indirect address is the derived address.
-fn redirect(core: Core, form: u16, w: u16, x: u16, got: Got) -> Prepared
+fn redirect(
+    core: Core,
+    form: u16,
+    w: u16,
+    x: u16,
+    got: Result<u16, Refusal>,
+) -> Result<Instruction, Denial>
     ensures { result ≡ redirected core form w x got }
 {
     match got {
-        Got::Word(a) => ready(core, form, w, x, a),
-        Got::Missed(b) => Prepared::Denied(b, advance(core.ic, form / 4096)),
+        Ok(a) => ready(core, form, w, x, a),
+        Err(b) => Err(denied(b, advance(core.ic, form / 4096))),
     }
 }
 
@@ -75,12 +94,12 @@ fn derive(
     group: u16,
     regs: &[u16; 16],
     memory: &[u16],
-    pages: &[u16],
+    pages: &[u16; 512],
     form: u16,
     w: u16,
     x: u16,
-) -> Prepared
-    requires { (length pages.now ≡ 512) × Keyed core.sw key group }
+) -> Result<Instruction, Denial>
+    requires { Keyed core.sw key group }
     ensures { result ≡ derived mil1750 (joined core regs.now)
         (view core memory.now pages.now) form w x (eqb (mode_of form) 7) }
 {
@@ -100,13 +119,13 @@ fn second_word(
     key: u16,
     group: u16,
     memory: &[u16],
-    pages: &[u16],
+    pages: &[u16; 512],
     form: u16,
-) -> Got
-    requires { (length pages.now ≡ 512) × (group < 16) × (lookup Access.Fetch key group pages.now (length memory.now) ic ≡ Place.At at) }
+) -> Result<u16, Refusal>
+    requires { (group < 16) × (lookup Access.Fetch key group pages.now (length memory.now) ic ≡ Ok at) }
     ensures { result ≡ cond (eqb (length_of form) 2)
         (got_at memory.now (lookup Access.Fetch key group pages.now (length memory.now) (wrapped (ic + 1))))
-        (Got.Word 0) }
+        (Ok 0) }
 {
     if form / 4096 == 2 {
         if ic % 4096 == 4095 {
@@ -114,11 +133,11 @@ fn second_word(
         }
         let next = at + 1;
         if next < memory.len() {
-            return Got::Word(memory[next]);
+            return Ok(memory[next]);
         }
-        return Got::Missed(refuse(Access::Fetch, group, ic, 0x0080));
+        return Err(refuse(Access::Fetch, group, ic, 0x0080));
     }
-    Got::Word(0)
+    Ok(0)
 }
 
 // A permitted instruction, from its second word on.
@@ -128,20 +147,19 @@ fn extend(
     group: u16,
     regs: &[u16; 16],
     memory: &[u16],
-    pages: &[u16],
+    pages: &[u16; 512],
     form: u16,
     w: u16,
     at: usize,
-) -> Prepared
-    requires { (length pages.now ≡ 512) × Keyed core.sw key group
-        × (lookup Access.Fetch key group pages.now (length memory.now) core.ic ≡ Place.At at) }
+) -> Result<Instruction, Denial>
+    requires { Keyed core.sw key group × (lookup Access.Fetch key group pages.now (length memory.now) core.ic ≡ Ok at) }
     ensures { result ≡ granted mil1750 (joined core regs.now)
         (view core memory.now pages.now) form w true (eqb (length_of form) 2) }
 {
     let second = second_word(core.ic, at, key, group, memory, pages, form);
     match second {
-        Got::Word(x) => derive(core, key, group, regs, memory, pages, form, w, x),
-        Got::Missed(b) => Prepared::Denied(b, advance(core.ic, 2)),
+        Ok(x) => derive(core, key, group, regs, memory, pages, form, w, x),
+        Err(b) => Err(denied(b, advance(core.ic, 2))),
     }
 }
 
@@ -153,23 +171,22 @@ pub fn prepare(
     group: u16,
     regs: &[u16; 16],
     memory: &[u16],
-    pages: &[u16],
+    pages: &[u16; 512],
     number: u32,
     w: u16,
     at: usize,
-) -> Prepared
-    requires { (length pages.now ≡ 512) × Keyed core.sw key group
-        × (lookup Access.Fetch key group pages.now (length memory.now) core.ic ≡ Place.At at) }
+) -> Result<Instruction, Denial>
+    requires { Keyed core.sw key group × (lookup Access.Fetch key group pages.now (length memory.now) core.ic ≡ Ok at) }
     ensures { result ≡ decoded mil1750 (joined core regs.now)
         (view core memory.now pages.now) (number % 65536) w (eqb (number % 65536) 0) }
 {
     let form = (number % 65536) as u16;
     if form == 0 {
-        return Prepared::Denied(Refusal { ft: 0x0040, mfs: 0 }, advance(core.ic, 1));
+        return Err(denied(Refusal { ft: 0x0040, mfs: 0 }, advance(core.ic, 1)));
     }
     let class = class_of(form % 256);
     if permit(class, key) {
         return extend(core, key, group, regs, memory, pages, form, w, at);
     }
-    Prepared::Denied(Refusal { ft: 0x0020, mfs: 0 }, advance(core.ic, 1))
+    Err(denied(Refusal { ft: 0x0020, mfs: 0 }, advance(core.ic, 1)))
 }

@@ -1,4 +1,5 @@
 -- XIO: a timer command, and any other done or refused. Assumes nothing.
+use Rattle.std.proofs.Common.{Result, Ok, Err}
 use Prim.Native.Nat.{ℕ, ◌+◌}
 use mathlib.Core.Path.{◌≡◌, refl, ap, subst}
 use mathlib.Core.Bool.{true}
@@ -17,8 +18,6 @@ use Rattle.machine.specs.Step.{faulted, perform}
 use Rattle.isa.specs.Fields.{field_a}
 use Rattle.isa.specs.Commands.{resumed, is_timer, timer_rules, timer_command, state_command, commanded, becomes, transferred}
 use Rattle.command.specs.Transfer.{governed, Kept}
-use Rattle.command.specs.declared.Governed.{Governed}
-use Rattle.command.specs.declared.Governed.TheVariants.{Done, Refused}
 
 -- ---- a timer command
 
@@ -39,13 +38,13 @@ timer-became s m g o n d h f =
 
 -- ---- any other, done or refused
 
-module _ (s : State) (m : List ℕ) (n : Instruction) (regs' g g' o o' : List ℕ) (v : Governed) (q : Supervised) (e : governed s v regs' g' o' ≡ q) where
-  pub governed-done : (t : Core) → v ≡ Done t → Became (perform s m g o (supervised n q)) (with_processor s (joined t regs')) m g' o'
+module _ (s : State) (m : List ℕ) (n : Instruction) (regs' g g' o o' : List ℕ) (v : Result Core Refusal) (q : Supervised) (e : governed s v regs' g' o' ≡ q) where
+  pub governed-done : (t : Core) → v ≡ Ok t → Became (perform s m g o (supervised n q)) (with_processor s (joined t regs')) m g' o'
   unfolding governed supervised perform
   governed-done t h =
       rw (← e, h) (record { state-is = refl; memory-is = refl; pages-is = refl; ports-is = refl })
 
-  pub governed-refused : (b : Refusal) (r : Core) → v ≡ Refused b → Kept v s.regs regs' × Kept v g g' × Kept v o o'
+  pub governed-refused : (b : Refusal) (r : Core) → v ≡ Err b → Kept v s.regs regs' × Kept v g g' × Kept v o o'
       → r ≡ faulted s.core b (wrapped (n.ic + length_of n.form))
       → Became (perform s m g o (supervised n q)) (with_processor s (joined r regs')) m g' o'
   unfolding governed Kept supervised perform next_of

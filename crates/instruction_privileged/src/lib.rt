@@ -1,5 +1,5 @@
 // The operations that are no user's, XIO, BEX and LST, from their accesses on (Scope, "One step", 2 and 3), on a core and the registers lent
-// beside it, whatever the rest of the state is; key and group are those of its SW. Callers have 512 page registers and 1,024 ports: a run asks for them.
+// beside it, whatever the rest of the state is; key and group are those of its SW.
 #![tactic(auto)]
 
 ghost use Rattle.std.specs.Prelude.{◌≡◌, false, List, ℕ, ◌/◌, ◌<◌, length};
@@ -15,10 +15,10 @@ ghost use Rattle.instruction_retired.specs.Settled.{carrying, Performed};
 
 use clock::time::fault;
 use command::timers::is_timer;
-use command::{Governed, transfer};
+use command::transfer;
 use command_core::{load_status, resume};
 use fast_accumulate::operand::read_operand;
-use instruction_retired::{Retired, deny, unsettled};
+use instruction_retired::{Retired, TimerCommand, deny, unsettled};
 use interrupt_entry::{arrive, link};
 use interrupt_vector::pointers::call_vector;
 use machine::{Core, Instruction};
@@ -28,19 +28,18 @@ use status_word::advance;
 fn govern(
     core: Core,
     regs: &mut [u16; 16],
-    pages: &mut [u16],
-    ports: &mut [u16],
+    pages: &mut [u16; 512],
+    ports: &mut [u16; 1024],
     n: Instruction,
 ) -> Core
-    requires { (length pages.old ≡ 512) × (length ports.old ≡ 1024) × (is_timer n.address ≡ false) }
+    requires { is_timer n.address ≡ false }
     ensures { (s : State) (memory : List ℕ) → Became (perform (with_processor s (joined core regs.old)) memory pages.old ports.old
         (spec.supervised n (transferred (with_processor s (joined core regs.old)) pages.old ports.old n)))
         (with_processor s (joined result regs.new)) memory pages.new ports.new }
 {
-    let governed = transfer(core, regs, pages, ports, n);
-    match governed {
-        Governed::Done(t) => t,
-        Governed::Refused(b) => fault(core, b, advance(n.ic, n.form / 4096)),
+    match transfer(core, regs, pages, ports, n) {
+        Ok(t) => t,
+        Err(b) => fault(core, b, advance(n.ic, n.form / 4096)),
     }
 }
 
@@ -48,19 +47,21 @@ fn govern(
 pub fn command(
     core: Core,
     regs: &mut [u16; 16],
-    pages: &mut [u16],
-    ports: &mut [u16],
+    pages: &mut [u16; 512],
+    ports: &mut [u16; 1024],
     n: Instruction,
 ) -> Retired
-    requires { (length pages.old ≡ 512) × (length ports.old ≡ 1024) × (path_of (operation_of n.form) ≡ xio_path) }
+    requires { path_of (operation_of n.form) ≡ xio_path }
     ensures { (memory : List ℕ) → Performed (carrying n) core regs.old memory pages.old ports.old
         (n.first / 256) result regs.new memory pages.new ports.new }
 {
     if is_timer(n.address) {
         return Retired {
             settled: false,
-            command: n.address,
-            first: n.first,
+            timer: Some(TimerCommand {
+                command: n.address,
+                first: n.first,
+            }),
             core: resume(core, n),
         };
     }
@@ -68,8 +69,8 @@ pub fn command(
 }
 
 // BEX k (5.30): the entry of interrupt 5 from the IC after it, with any registers and ports.
-fn call(core: Core, memory: &mut [u16], pages: &[u16], k: u16) -> Core
-    requires { (length pages.now ≡ 512) × (k < 16) }
+fn call(core: Core, memory: &mut [u16], pages: &[u16; 512], k: u16) -> Core
+    requires { k < 16 }
     ensures { (s : State) (regs ports : List ℕ)
         → Became (perform (with_processor s (joined core regs)) memory.old pages.now ports (spec.call k))
         (with_processor s (joined result regs)) memory.new pages.now ports }
@@ -81,8 +82,8 @@ fn call(core: Core, memory: &mut [u16], pages: &[u16], k: u16) -> Core
 }
 
 // BEX (5.30), with any registers and ports.
-pub fn executive(core: Core, memory: &mut [u16], pages: &[u16], n: Instruction) -> Retired
-    requires { (length pages.now ≡ 512) × (path_of (operation_of n.form) ≡ bex_path) }
+pub fn executive(core: Core, memory: &mut [u16], pages: &[u16; 512], n: Instruction) -> Retired
+    requires { path_of (operation_of n.form) ≡ bex_path }
     ensures { (regs ports : List ℕ) → Performed (carrying n) core regs memory.old pages.now ports
         (n.first / 256) result regs memory.new pages.now ports }
 {
@@ -96,18 +97,16 @@ pub fn load(
     group: u16,
     regs: &[u16; 16],
     memory: &[u16],
-    pages: &[u16],
+    pages: &[u16; 512],
     n: Instruction,
     number: u32,
 ) -> Retired
-    requires { (length pages.now ≡ 512) × Keyed core.sw key group × (path_of (operation_of n.form) ≡ lst_path)
-        × (number ≡ number_of n.form) }
+    requires { Keyed core.sw key group × (path_of (operation_of n.form) ≡ lst_path) × (number ≡ number_of n.form) }
     ensures { (ports : List ℕ) → Performed (carrying n) core regs.now memory.now pages.now ports
         (n.first / 256) result regs.now memory.now pages.now ports }
 {
-    let words = read_operand(key, group, memory, pages, n, number);
-    if words.clear {
-        return unsettled(load_status(core, words.x, words.y, words.z));
+    match read_operand(key, group, memory, pages, n, number) {
+        Ok(words) => unsettled(load_status(core, words.x, words.y, words.z)),
+        Err(b) => deny(core, b, advance(n.ic, n.form / 4096)),
     }
-    deny(core, words.fault, advance(n.ic, n.form / 4096))
 }

@@ -2,22 +2,16 @@
 use Prim.Native.Nat.{ℕ, ◌/◌}
 use mathlib.Core.Path.{◌≡◌, refl}
 use mathlib.Core.Bool.{Bool, true, false, false≢true}
-use Rattle.machine.specs.declared.State.{State}
 use Rattle.machine.specs.declared.Core.{Core}
-use Rattle.isa.specs.Commands.{timer_command}
+use Rattle.std.specs.Prelude.{Some}
 use Rattle.instruction_retired.specs.Settled.{retired_with, Settled, Lasting}
 
--- nothing is left to do
-pub command-none : (s : State) (k : ℕ) → timer_command s k 0 ≡ s
-unfolding timer_command
-command-none s k = refl
-
 pub retired-lasting : (c d : Core) (k : ℕ) (b : Bool) → (b ≡ true → Settled c d) → Lasting c k (retired_with b d)
-retired-lasting c d k b h = record { choice-kept = h; all_done = λ e. refl; timed = λ n. absurd (n refl) }
+retired-lasting c d k b h = record { choice-kept = h; all_done = λ e. refl; timed = λ t n. cc }
 
 pub unsettled-lasting : (c d : Core) (k : ℕ) → Lasting c k (retired_with false d)
 unsettled-lasting c d k = retired-lasting c d k false (λ e. absurd (false≢true e))
 
 -- with a timer command left to do, which the first word w gave
-pub commanded-lasting : (c d : Core) (a w : ℕ) → Lasting c (w / 256) (record { settled = false; command = a; first = w; core = d })
-commanded-lasting c d a w = record { choice-kept = λ e. absurd (false≢true e); all_done = λ e. absurd (false≢true e); timed = λ n. refl }
+pub commanded-lasting : (c d : Core) (a w : ℕ) → Lasting c (w / 256) (record { settled = false; timer = Some (record { command = a; first = w }); core = d })
+commanded-lasting c d a w = record { choice-kept = λ e. absurd (false≢true e); all_done = λ e. absurd (false≢true e); timed = λ t n. cc }

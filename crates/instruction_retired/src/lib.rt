@@ -9,13 +9,19 @@ use clock::time::fault;
 use machine::Core;
 use page::Refusal;
 
+// A timer command that is still to be done, with the first word of its instruction.
+#[derive(Clone, Copy)]
+pub struct TimerCommand {
+    pub command: u16,
+    pub first: u16,
+}
+
 // The core after an instruction. Where it is settled, no other interrupt is to be chosen than before, by the same key and address state; it does not
-// have to be (`Lasting`). A timer command, with the first word of its instruction, is handed back undone: an instruction has no clock. 0 is none.
+// have to be (`Lasting`). A timer command is handed back undone: an instruction has no clock.
 #[derive(Clone, Copy)]
 pub struct Retired {
     pub settled: bool,
-    pub command: u16,
-    pub first: u16,
+    pub timer: Option<TimerCommand>,
     pub core: Core,
 }
 
@@ -25,8 +31,7 @@ pub fn unsettled(core: Core) -> Retired
 {
     Retired {
         settled: false,
-        command: 0,
-        first: 0,
+        timer: None,
         core,
     }
 }
@@ -37,8 +42,7 @@ pub fn weighed(pi: u16, core: Core) -> Retired
 {
     Retired {
         settled: core.pi == pi,
-        command: 0,
-        first: 0,
+        timer: None,
         core,
     }
 }

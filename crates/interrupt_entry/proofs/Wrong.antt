@@ -1,8 +1,7 @@
 -- Two wrong answers of each contract that other crates call, beside the right one, which the checker computes. Assumes nothing.
-use Rattle.std.proofs.Common.{ℕ, true, false, T, List, [], ◌∷◌, ◌++◌, replicate}
+use Rattle.std.proofs.Common.{ℕ, true, false, T, List, [], ◌∷◌, ◌++◌, replicate, Err, Ok}
 use Rattle.choice.proofs.Rows.{Row, some, hold, flag}
 use Rattle.page.specs.declared.Refusal.{Refusal}
-use Rattle.page.specs.declared.Verdict.TheVariants.{Clear, Fault}
 use Rattle.page.specs.Pages.{refusal}
 use Rattle.machine.specs.declared.Core.{Core}
 use Rattle.machine.specs.declared.Vector.{Vector}
@@ -41,10 +40,10 @@ rows =
     some (both (stored_after (ft_alone 0) (linked memory g v)) ++ link_stored c memory g v (linked memory g v))
     (0x0080 ∷ 8 ∷ 0 ∷ 0 ∷ 0 ∷ 0 ∷ 0 ∷ 0 ∷ []) (0x0080 ∷ 8 ∷ 0 ∷ 0 ∷ 0 ∷ 0 ∷ 1 ∷ 2 ∷ []) (0 ∷ 0 ∷ 0 ∷ 0 ∷ 0 ∷ 0 ∷ 0 ∷ 0 ∷ [])
     -- arrive: the PI bit of the interrupt kept; interrupts left enabled
-    ∷ some (shown (arrived c 5 v (stored_after v.fault (Fault (refusal 0x0080 0x1008)))))
+    ∷ some (shown (arrived c 5 v (stored_after v.fault (Err (refusal 0x0080 0x1008)))))
     (9 ∷ 8 ∷ 7 ∷ 0x4001 ∷ 0x0080 ∷ 0x1008 ∷ 0 ∷ []) (9 ∷ 8 ∷ 7 ∷ 0x4401 ∷ 0x0080 ∷ 0x1008 ∷ 0 ∷ []) (9 ∷ 8 ∷ 7 ∷ 0x4001 ∷ 0x0080 ∷ 0x1008 ∷ 1 ∷ [])
     -- arrive: PI bit 1 set without a refusal; the memory fault status cleared
-    ∷ some (shown (arrived c 5 v (stored_after v.fault Clear)))
+    ∷ some (shown (arrived c 5 v (stored_after v.fault (Ok tt))))
     (9 ∷ 8 ∷ 7 ∷ 0x0001 ∷ 0 ∷ 0xC005 ∷ 0 ∷ []) (9 ∷ 8 ∷ 7 ∷ 0x4001 ∷ 0 ∷ 0xC005 ∷ 0 ∷ []) (9 ∷ 8 ∷ 7 ∷ 0x0001 ∷ 0 ∷ 0 ∷ 0 ∷ [])
     ∷ []
 

@@ -1,5 +1,5 @@
-// The entry of an interrupt, and of the executive by BEX, once its words are read (Scope, "Entry of n"). Callers have 512 page registers,
-// and an interrupt's number of four bits.
+// The entry of an interrupt, and of the executive by BEX, once its words are read (Scope, "Entry of n").
+// Callers have an interrupt's number of four bits.
 #![tactic(auto)]
 
 ghost use Rattle.std.specs.Prelude.{◌≡◌, ◌<◌, length};
@@ -10,7 +10,7 @@ use bits::bits::reset_bit;
 use machine::fault::{after_fault, follow};
 use machine::{Core, Vector};
 use page::lookup::{check_span, look_up};
-use page::{Access, Place, Refusal, Span, Verdict};
+use page::{Access, Refusal, Span};
 use status_word::group_of;
 use std::num::wrapping_add_u16;
 use storage::write::write_span;
@@ -32,11 +32,10 @@ fn link_each(
     sw: u16,
     ic: u16,
     memory: &mut [u16],
-    pages: &[u16],
+    pages: &[u16; 512],
     next: u16,
     a: u16,
-) -> Verdict
-    requires { length pages.now ≡ 512 }
+) -> Result<(), Refusal>
     ensures { (v : Vector) → v.sw ≡ next → v.link ≡ a → (result ≡ linked memory.old pages.now v)
         × ((c : Core) → c.mk ≡ mk → c.sw ≡ sw → c.ic ≡ ic
         → memory.new ≡ link_stored c memory.old pages.now v (linked memory.old pages.now v)) }
@@ -50,15 +49,15 @@ fn link_each(
     };
     let verdict = check_span(Access::Write, 0, group, pages, memory.len(), span);
     match verdict {
-        Verdict::Clear => {
+        Ok(()) => {
             let mut old: [u16; 16] = [0; 16];
             old[0] = mk;
             old[1] = sw;
             old[2] = ic;
             write_span(0, group, memory, pages, &old, span);
-            Verdict::Clear
+            Ok(())
         }
-        Verdict::Fault(b) => Verdict::Fault(b),
+        Err(b) => Err(b),
     }
 }
 
@@ -68,11 +67,10 @@ pub fn link(
     sw: u16,
     ic: u16,
     memory: &mut [u16],
-    pages: &[u16],
+    pages: &[u16; 512],
     next: u16,
     a: u16,
-) -> Verdict
-    requires { length pages.now ≡ 512 }
+) -> Result<(), Refusal>
     ensures { (v : Vector) → v.sw ≡ next → v.link ≡ a → (result ≡ linked memory.old pages.now v)
         × ((c : Core) → c.mk ≡ mk → c.sw ≡ sw → c.ic ≡ ic
         → memory.new ≡ link_stored c memory.old pages.now v (linked memory.old pages.now v)) }
@@ -81,30 +79,30 @@ pub fn link(
     if 2 <= end % 4096 {
         let last = look_up(Access::Write, 0, group_of(next), pages, memory.len(), end);
         match last {
-            Place::At(p) => {
+            Ok(p) => {
                 memory[p - 2] = mk;
                 memory[p - 1] = sw;
                 memory[p] = ic;
-                return Verdict::Clear;
+                return Ok(());
             }
-            Place::Refused(_) => {}
+            Err(_) => {}
         }
     }
     link_each(mk, sw, ic, memory, pages, next, a)
 }
 
 // The refusals of the words read, and that of the stores.
-fn gather(read: Refusal, stores: Verdict) -> Refusal
+fn gather(read: Refusal, stores: Result<(), Refusal>) -> Refusal
     ensures { result ≡ stored_after read stores }
 {
     match stores {
-        Verdict::Clear => read,
-        Verdict::Fault(b) => follow(read, b),
+        Ok(()) => read,
+        Err(b) => follow(read, b),
     }
 }
 
 // The core after the entry of interrupt n by the vector v, whose stores came to this verdict.
-pub fn arrive(core: Core, n: u16, v: Vector, stores: Verdict) -> Core
+pub fn arrive(core: Core, n: u16, v: Vector, stores: Result<(), Refusal>) -> Core
     requires { n < 16 }
     ensures { result ≡ arrived core n v (stored_after v.fault stores) }
 {

@@ -1,35 +1,24 @@
 -- The words of a vector of which MK, SW and IC lie in one page. Assumes nothing.
-use Rattle.std.proofs.Common.{◌≡◌, ℕ, ◌+◌, ◌-◌, ◌*◌, ◌/◌, ◌%◌, ◌<◌, ◌≤◌, List, length, get_or, sym, refl, ◌∙◌, arith}
+use Rattle.std.proofs.Common.{◌≡◌, ℕ, ◌+◌, ◌-◌, ◌*◌, ◌/◌, ◌%◌, ◌<◌, ◌≤◌, List, length, get_or, sym, refl, ◌∙◌, arith, Ok}
 use Rattle.page.specs.declared.Access.TheVariants.{Read}
-use Rattle.page.specs.declared.Place.TheVariants.{At}
-use Rattle.page.specs.declared.Got.TheVariants.{Word}
 use Rattle.page.specs.Pages.{physical, through, lookup}
 use Rattle.page.specs.Spans.{wrapped, got_at, word_of}
 use Rattle.page.proofs.NearLaws.{lookup-before}
 use Rattle.page.proofs.ReachLaws.{located-inside}
-use Rattle.machine.specs.declared.Vector.{Vector}
 use Rattle.machine.specs.Faults.{ft_alone}
-use Rattle.interrupt_vector.specs.declared.Found.TheVariants.{All, NotAll}
 use Rattle.machine.specs.Entries.{read_after, got_zero, vector_at, vector_of}
-
--- what a search found
-pub all_found : (v w u : Vector) → All w ≡ All v → u ≡ w → v ≡ u
-all_found v w u e h = cc
-
-pub not_found : {A : Type 0} (v : Vector) → NotAll ≡ All v → A
-not_found v e = let z : ◌≡◌ {A = ℕ} 0 1 = cc in absurd (omega arith)
 
 -- words of address state 0, with key 0
 module _ (m g : List ℕ) where
   abbrev Found : ℕ → ℕ → Type 0
-  Found a p = lookup Read 0 0 g (length m) a ≡ At p
+  Found a p = lookup Read 0 0 g (length m) a ≡ Ok p
 
-  got : (a p : ℕ) → Found a p → got_zero m g a ≡ Word (get_or m p 0)
+  got : (a p : ℕ) → Found a p → got_zero m g a ≡ Ok (get_or m p 0)
   unfolding got_zero got_at
   got a p e = rw e refl
 
   pub inside-at : (a p : ℕ) → Found a p → p < length m
-  inside-at a p e = located-inside Read 0 0 g (length m) a (At p) p (sym e) refl
+  inside-at a p e = located-inside Read 0 0 g (length m) a (Ok p) p (sym e) refl
 
   -- only sixteen bits of an address count
   looked-wrapped : (b : ℕ) → lookup Read 0 0 g (length m) (b % 65536) ≡ lookup Read 0 0 g (length m) b
@@ -50,7 +39,7 @@ module _ (m g : List ℕ) where
     pub inside-before : p - j < length m
     inside-before = omega (arith, inside-at a p e)
 
-    got_before : (b : ℕ) → a - j ≡ b % 65536 → got_zero m g b ≡ Word (get_or m (p - j) 0)
+    got_before : (b : ℕ) → a - j ≡ b % 65536 → got_zero m g b ≡ Ok (get_or m (p - j) 0)
     got_before b s = got b (p - j) (sym (looked-wrapped b) ∙ (rw s at (lookup-before Read 0 0 g (length m) a j within p e).1))
 
   -- the service pointer was found at p, and the last word, at end, at q

@@ -3,12 +3,3 @@
 
 pub mod pending;
 pub mod pointers;
-
-use machine::Vector;
-
-// A vector, where all its words were found at once.
-#[derive(Clone, Copy)]
-pub enum Found {
-    All(Vector),
-    NotAll,
-}

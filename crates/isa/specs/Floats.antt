@@ -6,7 +6,7 @@ use Rattle.twos_complement.specs.Whole.{signed}
 use Rattle.word.specs.Pair.{high_word, low_word}
 use Rattle.word.specs.Status.{status}
 use Rattle.float.specs.declared.Float.{Float}
-use Rattle.float.specs.Float.{Result, given}
+use Rattle.float.specs.Float.{Result, given, overflows, underflows}
 use Rattle.float.specs.Words.{mantissa24, mantissa40, exponent_of, first_word, second_word, third_word}
 use Rattle.float_add.specs.Add.{sum_of, difference_of}
 use Rattle.float_mul.specs.Multiply.{product_of}
@@ -22,12 +22,12 @@ use Rattle.isa.specs.Effects.{Context, fixed_overflow, float_faults, into_regist
 -- registers from k on get a float, CS the status of its mantissa, and PI its faults
 unfoldable pub float24 : Context → Instruction → ℕ → Float → Effect
 float24 v n k f =
-    into_registers v n k (first_word f.mantissa ∷ second_word f.mantissa f.exponent ∷ []) (status 24 f.mantissa) (float_faults f.overflow f.underflow)
+    into_registers v n k (first_word f.mantissa ∷ second_word f.mantissa f.exponent ∷ []) (status 24 f.mantissa) (float_faults (overflows f.fault) (underflows f.fault))
 
 unfoldable pub float40 : Context → Instruction → ℕ → Float → Effect
 float40 v n k f =
     let u = f.mantissa / 65536 in
-    into_registers v n k (first_word u ∷ second_word u f.exponent ∷ third_word f.mantissa ∷ []) (status 40 f.mantissa) (float_faults f.overflow f.underflow)
+    into_registers v n k (first_word u ∷ second_word u f.exponent ∷ third_word f.mantissa ∷ []) (status 40 f.mantissa) (float_faults (overflows f.fault) (underflows f.fault))
 
 -- a function of two mantissas and exponents, of the accumulator and of the operand
 unfoldable pub both24 : {A : Type 0} → (ℤ → ℕ → ℤ → ℕ → A) → Context → Instruction → ℕ → ℕ → A

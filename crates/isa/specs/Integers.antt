@@ -7,7 +7,8 @@ use Rattle.word.specs.Pair.{high_word, low_word}
 use Rattle.bits.specs.Bytes.{exchange}
 use Rattle.word.specs.Compare.{compared, limited}
 use Rattle.fixed_muldiv.specs.declared.Quotient.{Quotient}
-use Rattle.fixed_add.specs.Fixed.{Outcome, sum, difference, negated, absolute}
+use Rattle.fixed_add.specs.declared.Outcome.{Outcome}
+use Rattle.fixed_add.specs.Fixed.{sum, difference, negated, absolute}
 use Rattle.fixed_muldiv.specs.Divide.{product, long_product, divided, long_divided, quotient}
 use Rattle.machine.specs.declared.Instruction.{Instruction}
 use Rattle.machine.specs.Machine.{Effect}
@@ -17,19 +18,19 @@ use Rattle.isa.specs.Words.{register_pair}
 use Rattle.isa.specs.Effects.{Context, fixed_overflow, into_registers, single, tested, modified, nothing}
 
 -- register k gets an outcome of 16 bits
-unfoldable pub single_outcome : Context → Instruction → ℕ → Outcome → Effect
+unfoldable pub single_outcome : Context → Instruction → ℕ → Outcome ℕ → Effect
 single_outcome v n k o = into_registers v n k (o.value ∷ []) o.cs (fixed_overflow o.overflow)
 
 -- registers k and k + 1 get one of 32 bits
-unfoldable pub double_outcome : Context → Instruction → ℕ → Outcome → Effect
+unfoldable pub double_outcome : Context → Instruction → ℕ → Outcome ℕ → Effect
 double_outcome v n k o = into_registers v n k (high_word o.value ∷ low_word o.value ∷ []) o.cs (fixed_overflow o.overflow)
 
 -- the memory word gets one of 16 bits
-unfoldable pub memory_outcome : Context → Instruction → Outcome → Effect
+unfoldable pub memory_outcome : Context → Instruction → Outcome ℕ → Effect
 memory_outcome v n o = modified v n o.value o.cs (fixed_overflow o.overflow)
 
 -- registers k and k + 1 get a quotient and its remainder
-unfoldable pub quotient_outcome : Context → Instruction → ℕ → Quotient → Effect
+unfoldable pub quotient_outcome : Context → Instruction → ℕ → Quotient ℕ → Effect
 quotient_outcome v n k q = into_registers v n k (q.quotient ∷ q.remainder ∷ []) q.cs (fixed_overflow q.overflow)
 
 -- 5.55 to 5.59, 5.63 to 5.67, 5.71 to 5.73, 5.76 to 5.78: A INCM ABS DABS DA, S DECM NEG DNEG DS, MS M DM, DV D DD

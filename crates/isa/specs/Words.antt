@@ -8,7 +8,8 @@ use Rattle.word.specs.Status.{status}
 use Rattle.bits.specs.Bits.{set_bit, reset_bit, test_bit}
 use Rattle.bits.specs.Bytes.{load_upper, load_lower, store_masked, store_upper, store_lower}
 use Rattle.word.specs.Condition.{jump_taken, branch_taken}
-use Rattle.shift.specs.Shift.{Shifted, logical_by, arithmetic_by, circular_by}
+use Rattle.shift.specs.declared.Shifted.{Shifted}
+use Rattle.shift.specs.Shift.{logical_by, arithmetic_by, circular_by}
 use Rattle.float.specs.Words.{mantissa40}
 use Rattle.page.specs.Spans.{wrapped}
 use Rattle.machine.specs.declared.Instruction.{Instruction}
@@ -42,10 +43,10 @@ bit_operation v n x operation =
     (nothing v n)
 
 -- RA, or RA and RA + 1, after a shift by a count in a register
-unfoldable pub shifted_single : Context → Instruction → Shifted → Effect
+unfoldable pub shifted_single : Context → Instruction → Shifted ℕ → Effect
 shifted_single v n s = into_registers v n (field_a n.first) (s.value ∷ []) (status 16 s.value) (fixed_overflow s.overflow)
 
-unfoldable pub shifted_double : Context → Instruction → Shifted → Effect
+unfoldable pub shifted_double : Context → Instruction → Shifted ℕ → Effect
 shifted_double v n s =
     into_registers v n (field_a n.first) (high_word s.value ∷ low_word s.value ∷ []) (status 32 s.value) (fixed_overflow s.overflow)
 

@@ -5,19 +5,20 @@ use mathlib.Core.Bool.{Bool, ◌&&◌}
 use mathlib.Core.List.{List, [], ◌∷◌}
 use lib.Dec.{eqb, T}
 use Rattle.choice.proofs.Rows.{all_of}
-use Rattle.text.specs.Texts.{bytes_of, digit, hex, leading, decimal, digit_of, given, word_of}
+use Rattle.text.specs.Texts.{bytes_of, digit, hex, leading, decimal, digit_of, word_by, word_of}
 use Rattle.decode.specs.Pages.{pages}
 use Rattle.line_operand.specs.Numerals.{digits, value, plain, numeral, before, onward}
 use Rattle.line_operand.specs.Shapes.{field_of, meets, covers, shapes, shape_of}
 use Rattle.line_operand.specs.Operands.{spell, omitted, piece, sep_after, tail, inside, ranged, marked, nonzero, negated, labelled, word_in, worded, taken_as, placed, taken, joined, hidden, optional, sum_after, rest_after, finished, reads}
 use Rattle.line_table.specs.Boxes.{same_text, named, box_of, box_named}
+use Rattle.std.proofs.Common.{Ok, Err}
 use Rattle.line.specs.declared.Words.{Words}
-use Rattle.line.specs.declared.Words.TheVariants.{One, Two, UnknownMnemonic, BadOperands, OutsideField}
-use Rattle.line.specs.Lines.{line_by, line_of, words_from, read_by, read_line, read_number}
+use Rattle.line.specs.declared.Words.TheVariants.{One, Two}
+use Rattle.line.specs.Lines.{line_by, Answer, line_of, refusal_of, words_from, read_by, read_line, read_number}
 
 -- opens every definition of lines at once
 unfoldable pub lines : Unit {0}
-unfolding bytes_of digit hex leading decimal digit_of given word_of pages digits value plain numeral before onward field_of meets covers shapes shape_of spell omitted piece sep_after tail inside ranged marked nonzero negated labelled word_in worded taken_as placed taken joined hidden optional sum_after rest_after finished reads same_text named box_of box_named line_by line_of words_from read_by read_line read_number
+unfolding bytes_of digit hex leading decimal digit_of word_by word_of pages digits value plain numeral before onward field_of meets covers shapes shape_of spell omitted piece sep_after tail inside ranged marked nonzero negated labelled word_in worded taken_as placed taken joined hidden optional sum_after rest_after finished reads same_text named box_of box_named line_by line_of refusal_of words_from read_by read_line read_number
 lines = tt
 
 -- words and their line, both ways; the line of two words; a refusal and its line; a word without a line
@@ -28,23 +29,18 @@ pub data Row : Type 0 where
   illegal : ℕ → Row
 
 -- the words of an answer, and none of a refusal
-abbrev pub words_in : Words → List ℕ
-words_in (One w) = w ∷ []
-words_in (Two w v) = w ∷ v ∷ []
-words_in UnknownMnemonic = []
-words_in BadOperands = []
-words_in OutsideField = []
+abbrev pub words_in : Answer → List ℕ
+words_in (Ok (One w)) = w ∷ []
+words_in (Ok (Two w v)) = w ∷ v ∷ []
+words_in (Err e) = []
 
 -- the line that words print as, those of one word with any second word
 abbrev line_for : Words → List ℕ
 line_for (One w) = line_of w 0xABCD
 line_for (Two w v) = line_of w v
-line_for UnknownMnemonic = []
-line_for BadOperands = []
-line_for OutsideField = []
 
 abbrev right : Row → Bool
-right (alike p s) = same_text (words_in (read_line (bytes_of s))) (words_in p) && same_text (line_for p) (bytes_of s)
+right (alike p s) = same_text (words_in (read_line (bytes_of s))) (words_in (Ok p)) && same_text (line_for p) (bytes_of s)
 right (prints w v s) = same_text (line_of w v) (bytes_of s)
 right (refused n s) = eqb (read_number (read_line (bytes_of s))) n
 right (illegal w) = same_text (line_of w 0) []

@@ -15,11 +15,10 @@ use Rattle.decode.specs.Pages.{Line, pages}
 use Rattle.decode.specs.Decode.{line_form, first_of, decode_of}
 use Rattle.line_operand.specs.declared.Place.{Place}
 use Rattle.line_operand.specs.declared.Place.TheVariants.{Lower, Upper, Base, Top, Second, Nowhere, Byte}
-use Rattle.line_operand.specs.declared.Parsed.{Parsed}
-use Rattle.line_operand.specs.declared.Parsed.TheVariants.{Malformed, Outside, Value}
+use Rattle.std.proofs.Common.{Ok, Err}
 use Rattle.line_operand.specs.Numerals.{before, onward}
 use Rattle.line_operand.specs.Shapes.{field_of, meets, covers}
-use Rattle.line_operand.specs.Operands.{tail, reads}
+use Rattle.line_operand.specs.Operands.{Parsed, tail, reads}
 use Rattle.line_operand.proofs.NumeralLaws.{cut, onward-starts, cut-plain}
 use Rattle.line_operand.proofs.PlaceLaws.{Digit, lower, upper, base, top, second, field-first, word_same}
 use Rattle.line_operand.proofs.RowLaws.{shown, shown-keeps, shown-held, hides, hides-none, held-digit, Came, tail-starts, tail-reads, reads-tail, Alike, tail-alike, alike-first, alike_both}
@@ -66,7 +65,7 @@ module _ (l : Line) (s : Sound l) (n : ℕ) where
   unfolding line_by
   line-cut = cut-plain blank (tail blank (shapes_of l) n) (tail-starts (shapes_of l) blank n) (bytes_of l.name) s.unbroken
 
-  pub line_read : box_named (bytes_of l.name) ≡ some l → read_line (line_by (some l) n) ≡ words_from (covers (shapes_of l) Second) (Value (shown (base_of l) (shapes_of l) n))
+  pub line_read : box_named (bytes_of l.name) ≡ some l → read_line (line_by (some l) n) ≡ words_from (covers (shapes_of l) Second) (Ok (shown (base_of l) (shapes_of l) n))
   unfolding read_line read_by
   line_read e = rw (line-cut.0, line-cut.1, e, tail-reads (shapes_of l) blank (base_of l) n s.fit s.order) refl
 
@@ -142,7 +141,7 @@ module _ (w v : ℕ) (h : w < 65536) (k : v < 65536) (l : Line) (s : Sound l) (p
       held-digit (shapes_of l) number (w + 65536 * v) second (shown-held (shapes_of l) (base_of l) (w + 65536 * v) s.scatter s.zero) t
       ∙ rw s.veil.3 e
 
-  pub read_back : words_from (covers (shapes_of l) Second) (Value (shown (base_of l) (shapes_of l) (w + 65536 * v))) ≡ cleared_by (some l) w v
+  pub read_back : words_from (covers (shapes_of l) Second) (Ok (shown (base_of l) (shapes_of l) (w + 65536 * v))) ≡ cleared_by (some l) w v
   unfolding words_from cleared_by number
   read_back =
       split (covers (shapes_of l) Second)
@@ -152,7 +151,7 @@ module _ (w v : ℕ) (h : w < 65536) (k : v < 65536) (l : Line) (s : Sound l) (p
 -- ---- reading, then printing
 
 -- a number m that was read from the line t as an instruction of the box l
-module _ (l : Line) (t : List ℕ) (m : ℕ) (e : box_named (before blank t) ≡ some l) (r : reads (Value (base_of l)) (shapes_of l) (onward blank t) ≡ Value m) where
+module _ (l : Line) (t : List ℕ) (m : ℕ) (e : box_named (before blank t) ≡ some l) (r : reads (Ok (base_of l)) (shapes_of l) (onward blank t) ≡ Ok m) where
   came : Came (shapes_of l) blank (base_of l) m (onward blank t)
   came =
       let s = named-sound (before blank t) l e in
@@ -169,11 +168,10 @@ module _ (l : Line) (t : List ℕ) (m : ℕ) (e : box_named (before blank t) ≡
       rw (its-box, named-name (before blank t) l e, tail-alike (shapes_of l) blank (m % 65536 + 65536 * v) m a, came.prints) (cut blank t)
 
 module _ (l : Line) (t : List ℕ) (e : box_named (before blank t) ≡ some l) where
-  pub answered : (o : Parsed) → reads (Value (base_of l)) (shapes_of l) (onward blank t) ≡ o → Prints (words_from (covers (shapes_of l) Second) o) t
+  pub answered : (o : Parsed) → reads (Ok (base_of l)) (shapes_of l) (onward blank t) ≡ o → Prints (words_from (covers (shapes_of l) Second) o) t
   unfolding words_from
-  answered Malformed r = tt
-  answered Outside r = tt
-  answered (Value m) r =
+  answered (Err e) r = tt
+  answered (Ok m) r =
       split (covers (shapes_of l) Second)
       (λ f. rw f (reprints l t m e r (m / 65536 % 65536) (alike_both (shapes_of l) m)))
       (λ f. rw f (λ v. reprints l t m e r v (alike-first (shapes_of l) m v f)))

@@ -11,6 +11,8 @@ unfolding lines
 rows =
     -- print: a count is printed without its bias; an index of 0 is printed
     some (line_of 0xA3F0 0x0100) (bytes_of "INCM 16,0100") (bytes_of "INCM 15,0100") (bytes_of "INCM 16,0100,R0")
+    -- line: the operands are left out; a comma stands before the first operand
+    ∷ some (line_of 0x823F 0) (bytes_of "LISP R3,16") (bytes_of "LISP") (bytes_of "LISP,R3,16")
     -- print: a field that the page prints as zero is shown; the second word of an instruction of one word is shown
     ∷ some (line_of 0x77A3 0x1234) (bytes_of "BEX 3") (bytes_of "BEX 10,3") (bytes_of "BEX 3,1234")
     -- read: index R0 is accepted; an operand outside its field comes before one of another form

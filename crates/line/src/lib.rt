@@ -2,93 +2,100 @@
 #![tactic(auto)]
 
 ghost use Rattle.std.specs.Prelude.{◌≡◌};
-ghost use Rattle.line.specs.Lines.{line_of, words_from, read_line, Shows};
+ghost use Rattle.line.specs.Lines.{line_of, text_of, text_in, words_from, read_line, Shows};
 
-use line_operand::Parsed;
-use line_operand::print::{Tail, put_operand};
+use arrayvec::ArrayVec;
+use line_operand::OperandError;
+use line_operand::print::put_operand;
 use line_parse::cursor::{Cursor, step};
-use line_parse::number::find;
-use line_table::entry::{base, slots, two_words};
+use line_parse::number::cut;
 use line_table::name::put_name;
+use line_table::parts::{shapes, two_words};
 use line_table::{by_name, by_word};
+use text::show;
 
-// What is printed: a line of so many bytes, or none, as the first word begins no legal instruction.
-#[derive(Clone, Copy)]
-pub enum Printed {
-    Length(usize),
-    Illegal,
-}
-
-// What a line is read as: one word, two words, or why it is refused.
+// The words that a line is read as.
 #[derive(Clone, Copy)]
 pub enum Words {
     One(u16),
     Two(u16, u16),
+}
+
+// Why a line is refused.
+#[derive(Clone, Copy, PartialEq, Eq)]
+pub enum LineError {
     UnknownMnemonic,
     BadOperands,
     OutsideField,
 }
 
-// The line of an instruction, at most 17 bytes, at the start of `out`; the other bytes of `out` stay.
-pub fn print(first: u16, second: u16, out: &mut [u8; 256]) -> Printed
-    ensures { Shows (line_of first second) out.old out.new result }
-{
-    let entry = by_word(first);
-    if entry == 0 {
-        return Printed::Illegal;
-    }
-    let n = first as u64 + 65536 * (second as u64);
-    let s = slots(entry);
-    let a = s.first;
-    let b = s.second;
-    let c = s.third;
-    let at = put_name(out, entry);
-    let t = put_operand(out, Tail { at, sep: b' ' }, a, n);
-    let t = put_operand(out, t, b, n);
-    let t = put_operand(out, t, c, n);
-    let end = t.at;
-    Printed::Length(end)
-}
+impl From<OperandError> for LineError {
+    ghost use Rattle.line.specs.Lines.{refusal_of};
 
-// The words of the number that the operands came to.
-fn words_from(two: bool, o: Parsed) -> Words
-    ensures { result ≡ words_from two o }
-{
-    match o {
-        Parsed::Malformed => Words::BadOperands,
-        Parsed::Outside => Words::OutsideField,
-        Parsed::Value(n) => {
-            let first = (n % 65536) as u16;
-            let second = (n / 65536 % 65536) as u16;
-            if two {
-                return Words::Two(first, second);
-            }
-            Words::One(first)
+    ghost from_gives = { λ e r. r ≡ refusal_of e };
+
+    #[tactic(auto, unfolding(crate::specs::Lines::refusal_of))]
+    fn from(e: OperandError) -> LineError {
+        match e {
+            OperandError::Malformed => LineError::BadOperands,
+            OperandError::Outside => LineError::OutsideField,
         }
     }
 }
 
+// The line of an instruction; none where its first word begins no legal one.
+pub fn line(first: u16, second: u16) -> Option<ArrayVec<u8, 40>>
+    ensures { text_in result ≡ text_of (line_of first second) }
+{
+    let entry = by_word(first)?;
+    let n = first as u64 + 65536 * (second as u64);
+    let mut text = ArrayVec::<u8, 40>::new();
+    put_name(&mut text, entry);
+    let mut sep = b' ';
+    let shapes = shapes(entry);
+    for shape in &shapes {
+        sep = put_operand(&mut text, sep, *shape, n);
+    }
+    Some(text)
+}
+
+// The same at the start of `out`, whose other bytes stay; its length, which is at most 17. The array is the caller's: `twin1750_print` is lent it by C.
+pub fn print(first: u16, second: u16, out: &mut [u8; 256]) -> Option<usize>
+    ensures { Shows (line_of first second) out.old out.new result }
+{
+    let text = line(first, second)?;
+    Some(show(&text, out))
+}
+
+// The words of the number that the operands came to.
+#[tactic(auto, unfolding(crate::specs::Lines::words_from))]
+fn words_from(two: bool, o: Result<u64, OperandError>) -> Result<Words, LineError>
+    ensures { result ≡ words_from two o }
+{
+    let n = o?;
+    let first = (n % 65536) as u16;
+    if two {
+        return Ok(Words::Two(first, (n / 65536 % 65536) as u16));
+    }
+    Ok(Words::One(first))
+}
+
 // The words of a line of any length.
-pub fn read(line: &[u8]) -> Words
+pub fn read(line: &[u8]) -> Result<Words, LineError>
     ensures { result ≡ read_line line.now }
 {
-    let end = find(line, 0, b' ');
-    let entry = by_name(&line[..end]);
-    if entry == 0 {
-        return Words::UnknownMnemonic;
+    let (name, operands) = cut(line, b' ');
+    let entry = by_name(name).ok_or(LineError::UnknownMnemonic)?;
+    let shapes = shapes(entry);
+    let mut c = Cursor {
+        sum: Ok(entry.base as u64),
+        rest: operands,
+    };
+    for shape in &shapes {
+        c = step(c, *shape);
     }
-    let s = slots(entry);
-    let a = s.first;
-    let b = s.second;
-    let c = s.third;
-    let sum = Parsed::Value(base(entry) as u64);
-    let t = step(line, a, Cursor { sum, at: end });
-    let t = step(line, b, t);
-    let t = step(line, c, t);
-    let at = t.at;
-    let sum = t.sum;
-    if at == line.len() {
-        return words_from(two_words(s), sum);
+    if !c.rest.is_empty() {
+        return Err(LineError::BadOperands);
     }
-    Words::BadOperands
+    words_from(two_words(&shapes), c.sum)
 }

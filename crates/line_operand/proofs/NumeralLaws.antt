@@ -7,6 +7,7 @@ use native.Mathlib.Omega.{arith}
 use lib.Dec.{eqb, leb, ltb, lit<}
 use lib.ListN.{length, get_or, length-append}
 use borrow.Author.Tests.{not-true, eq-eqb, ne_eqb, lt-ltb, le-ltb, le-leb, eqb-true, leb-true, ltb-true, ltb-false}
+use Rattle.std.proofs.Common.{Option, None, Some}
 use Rattle.text.specs.Texts.{leading, decimal, digit, digit_of}
 use Rattle.line_operand.specs.Numerals.{digits, value, plain, numeral, before, onward, lacks}
 use Rattle.choice.proofs.TestLaws.{split, both}
@@ -220,26 +221,31 @@ respelt (b ∷ c ∷ d ∷ e ∷ t) h k =
 
 -- ---- hexadecimal digits
 
-pub digit-reads : (d : ℕ) → d < 16 → digit_of (digit d) ≡ d
+pub digit-reads : (d : ℕ) → d < 16 → digit_of (digit d) ≡ Some d
 unfolding digit digit_of
 digit-reads d h =
+    let low : 48 + d - 48 ≡ d = omega arith in
+    let high : 55 + d - 55 ≡ d = omega arith in
     split (ltb d 10)
-    (λ e. let k = ltb-true d 10 e in rw (e, le-ltb (48 + d) 48 (omega arith), lt-ltb (48 + d) 58 (omega arith)) (omega arith))
-    (λ e. let k = ltb-false d 10 e in rw (e, le-ltb (55 + d) 48 (omega arith), le-ltb (55 + d) 58 (omega arith), le-ltb (55 + d) 65 (omega arith), lt-ltb (55 + d) 71 (omega arith)) (omega arith))
+    (λ e. let k = ltb-true d 10 e in rw (e, le-ltb (48 + d) 48 (omega arith), lt-ltb (48 + d) 58 (omega arith), low) refl)
+    (λ e. let k = ltb-false d 10 e in rw (e, le-ltb (55 + d) 48 (omega arith), le-ltb (55 + d) 58 (omega arith), le-ltb (55 + d) 65 (omega arith), lt-ltb (55 + d) 71 (omega arith), high) refl)
 
-pub digit-spells : (b : ℕ) → digit_of b < 16 → digit (digit_of b) ≡ b
+none-some : {A : Type 0} {d : ℕ} → ◌≡◌ {A = Option ℕ} None (Some d) → A
+none-some {A} {d} e = let z : ◌≡◌ {A = ℕ} 0 1 = cc in absurd (let y : ⊥ = omega arith in y)
+
+some-some : {c d : ℕ} → ◌≡◌ {A = Option ℕ} (Some c) (Some d) → c ≡ d
+some-some {c} {d} e = cc
+
+pub digit-spells : (b d : ℕ) → digit_of b ≡ Some d → (digit d ≡ b) × (d < 16)
 unfolding digit digit_of
-digit-spells b h =
-    split (ltb b 48) (λ p. absurd (never (rw p at h)))
+digit-spells b d h =
+    split (ltb b 48) (λ p. none-some (rw p at h))
     (λ p. let k = ltb-false b 48 p in split (ltb b 58)
-    (λ q. let l = ltb-true b 58 q in rw (p, q, lt-ltb (b - 48) 10 (omega arith)) (omega arith))
-    (λ q. split (ltb b 65) (λ r. absurd (never (rw (p, q, r) at h)))
+    (λ q. let l = ltb-true b 58 q in let e : b - 48 ≡ d = some-some (rw (p, q) at h) in (rw (lt-ltb d 10 (omega arith)) (omega arith), omega arith))
+    (λ q. split (ltb b 65) (λ r. none-some (rw (p, q, r) at h))
     (λ r. let m = ltb-false b 65 r in split (ltb b 71)
-    (λ s. let l = ltb-true b 71 s in rw (p, q, r, s, le-ltb (b - 55) 10 (omega arith)) (omega arith))
-    (λ s. absurd (never (rw (p, q, r, s) at h))))))
-  where
-    never : 16 < 16 → ⊥
-    never z = omega arith
+    (λ s. let l = ltb-true b 71 s in let e : b - 55 ≡ d = some-some (rw (p, q, r, s) at h) in (rw (le-ltb d 10 (omega arith)) (omega arith), omega arith))
+    (λ s. none-some (rw (p, q, r, s) at h)))))
 
 pub digit-plain : (d : ℕ) → not (eqb (digit d) 44) ≡ true
 unfolding digit

@@ -10,34 +10,34 @@ use lib.ListN.{length}
 use borrow.Author.Tests.{ne_eqb, lt-ltb, le-ltb, le-leb, eqb-true, eqb-false, leb-true, ltb-true, ltb-false}
 use Rattle.line_operand.specs.declared.Kind.{Kind}
 use Rattle.line_operand.specs.declared.Kind.TheVariants.{Register, Number, Label, Word, Index, Unread}
-use Rattle.line_operand.specs.declared.Parsed.{Parsed}
-use Rattle.line_operand.specs.declared.Parsed.TheVariants.{Malformed, Outside, Value}
-use Rattle.text.specs.Texts.{decimal, hex, digit_of, given, word_of}
+use Rattle.std.proofs.Common.{Option, None, Some, Ok, Err}
+use Rattle.line_operand.specs.declared.OperandError.TheVariants.{Malformed, Outside}
+use Rattle.text.specs.Texts.{decimal, hex, digit_of, word_by, word_of}
 use Rattle.line_operand.specs.Numerals.{numeral, value, lacks}
-use Rattle.line_operand.specs.Operands.{spell, omitted, inside, ranged, marked, nonzero, negated, labelled, word_in, worded, taken_as, joined}
+use Rattle.line_operand.specs.Operands.{Parsed, spell, omitted, inside, ranged, marked, nonzero, negated, labelled, word_in, worded, taken_as, joined}
 use Rattle.choice.proofs.TestLaws.{split, both}
 use Rattle.line_operand.proofs.NumeralLaws.{spelt, respelt, digit-reads, digit-spells, digit-plain}
 
 -- the answers differ
-pub malformed-field : {A : Type 0} {f : ℕ} → Malformed ≡ Value f → A
+pub malformed-field : {A : Type 0} {f : ℕ} → ◌≡◌ {A = Parsed} (Err Malformed) (Ok f) → A
 malformed-field {A} {f} e = let z : ◌≡◌ {A = ℕ} 0 1 = cc in absurd (let y : ⊥ = omega arith in y)
 
-pub outside-field : {A : Type 0} {f : ℕ} → Outside ≡ Value f → A
+pub outside-field : {A : Type 0} {f : ℕ} → ◌≡◌ {A = Parsed} (Err Outside) (Ok f) → A
 outside-field {A} {f} e = let z : ◌≡◌ {A = ℕ} 0 1 = cc in absurd (let y : ⊥ = omega arith in y)
 
-pub field-field : {f g : ℕ} → Value f ≡ Value g → f ≡ g
+pub field-field : {f g : ℕ} → ◌≡◌ {A = Parsed} (Ok f) (Ok g) → f ≡ g
 field-field {f} {g} e = cc
 
 -- ---- numbers from low on
 
-pub ranged-spelt : (low count f : ℕ) → low + count ≤ 1000 → f < count → ranged low count (decimal (low + f)) ≡ Value f
+pub ranged-spelt : (low count f : ℕ) → low + count ≤ 1000 → f < count → ranged low count (decimal (low + f)) ≡ Ok f
 unfolding ranged inside
 ranged-spelt low count f l h =
     let s = spelt (low + f) (omega arith) in
     let e : low + f - low ≡ f = omega arith in
     rw (s.right, s.worth, le-leb low (low + f) (omega arith), lt-ltb (low + f) (low + count) (omega arith), e) refl
 
-inside-field : (low count v f : ℕ) → inside low count v ≡ Value f → (v ≡ low + f) × (f < count)
+inside-field : (low count v f : ℕ) → inside low count v ≡ Ok f → (v ≡ low + f) × (f < count)
 unfolding inside
 inside-field low count v f e =
     split (leb low v && ltb v (low + count))
@@ -49,7 +49,7 @@ inside-field low count v f e =
     (omega arith, omega arith))
     (λ t. outside-field (rw t at e))
 
-pub ranged-read : (low count f : ℕ) (t : List ℕ) → low + count ≤ 1000 → ranged low count t ≡ Value f → (decimal (low + f) ≡ t) × (f < count)
+pub ranged-read : (low count f : ℕ) (t : List ℕ) → low + count ≤ 1000 → ranged low count t ≡ Ok f → (decimal (low + f) ≡ t) × (f < count)
 unfolding ranged
 ranged-read low count f t l e =
     split (numeral t)
@@ -60,11 +60,11 @@ ranged-read low count f t l e =
 
 -- ---- after "R"
 
-pub marked-spelt : (low count f : ℕ) → low + count ≤ 1000 → f < count → marked low count (82 ∷ decimal (low + f)) ≡ Value f
+pub marked-spelt : (low count f : ℕ) → low + count ≤ 1000 → f < count → marked low count (82 ∷ decimal (low + f)) ≡ Ok f
 unfolding marked
 marked-spelt low count f l h = ranged-spelt low count f l h
 
-pub marked-read : (low count f : ℕ) (t : List ℕ) → low + count ≤ 1000 → marked low count t ≡ Value f → (82 ∷ decimal (low + f) ≡ t) × (f < count)
+pub marked-read : (low count f : ℕ) (t : List ℕ) → low + count ≤ 1000 → marked low count t ≡ Ok f → (82 ∷ decimal (low + f) ≡ t) × (f < count)
 unfolding marked
 marked-read low count f [] l e = malformed-field e
 marked-read low count f (b ∷ t) l e =
@@ -76,27 +76,27 @@ marked-read low count f (b ∷ t) l e =
 
 -- ---- index registers
 
-nonzero-read : (o : Parsed) (f : ℕ) → nonzero o ≡ Value f → (o ≡ Value f) × (eqb f 0 ≡ false)
+nonzero-read : (o : Parsed) (f : ℕ) → nonzero o ≡ Ok f → (o ≡ Ok f) × (eqb f 0 ≡ false)
 unfolding nonzero
-nonzero-read Malformed f e = malformed-field e
-nonzero-read Outside f e = outside-field e
-nonzero-read (Value g) f e =
+nonzero-read (Err Malformed) f e = malformed-field e
+nonzero-read (Err Outside) f e = outside-field e
+nonzero-read (Ok g) f e =
     split (eqb g 0)
     (λ z. malformed-field (rw z at e))
-    (λ z. let q : g ≡ f = field-field (rw z at e) in (ap (λ x. Value x) q, rw (← q) z))
+    (λ z. let q : g ≡ f = field-field (rw z at e) in (ap (λ x. Ok x) q, rw (← q) z))
 
 -- ---- displacements
 
 -- numbers from 0 on
-zero-spelt : (count f : ℕ) → count ≤ 1000 → f < count → ranged 0 count (decimal f) ≡ Value f
+zero-spelt : (count f : ℕ) → count ≤ 1000 → f < count → ranged 0 count (decimal f) ≡ Ok f
 zero-spelt count f l h = ap (λ x. ranged 0 count (decimal x)) (sym (zero-add f)) ∙ ranged-spelt 0 count f (omega arith) h
 
-zero-read : (count f : ℕ) (t : List ℕ) → count ≤ 1000 → ranged 0 count t ≡ Value f → (decimal f ≡ t) × (f < count)
+zero-read : (count f : ℕ) (t : List ℕ) → count ≤ 1000 → ranged 0 count t ≡ Ok f → (decimal f ≡ t) × (f < count)
 zero-read count f t l e =
     let u = ranged-read 0 count f t (omega arith) e in
     (ap decimal (sym (zero-add f)) ∙ u.0, u.1)
 
-pub labelled-spelt : (f : ℕ) → f < 256 → labelled (cond (ltb f 128) (decimal f) (45 ∷ decimal (256 - f))) ≡ Value f
+pub labelled-spelt : (f : ℕ) → f < 256 → labelled (cond (ltb f 128) (decimal f) (45 ∷ decimal (256 - f))) ≡ Ok f
 unfolding labelled negated
 labelled-spelt f h =
     split (ltb f 128)
@@ -107,11 +107,11 @@ labelled-spelt f h =
     let g : 256 - (256 - f) ≡ f = omega arith in
     rw (e, zero-spelt 129 (256 - f) (lit≤ tt) (omega arith), z, g) refl)
 
-negated-read : (o : Parsed) (f : ℕ) → negated o ≡ Value f → (g : ℕ) × (o ≡ Value g) × (0 < g) × (f ≡ 256 - g)
+negated-read : (o : Parsed) (f : ℕ) → negated o ≡ Ok f → (g : ℕ) × (o ≡ Ok g) × (0 < g) × (f ≡ 256 - g)
 unfolding negated
-negated-read Malformed f e = malformed-field e
-negated-read Outside f e = outside-field e
-negated-read (Value g) f e =
+negated-read (Err Malformed) f e = malformed-field e
+negated-read (Err Outside) f e = outside-field e
+negated-read (Ok g) f e =
     split (eqb g 0)
     (λ z. malformed-field (rw z at e))
     (λ z.
@@ -119,7 +119,7 @@ negated-read (Value g) f e =
     let n = eqb-false g 0 z in
     (g, refl, omega arith, omega arith))
 
-minus-read : (f : ℕ) (t : List ℕ) → negated (ranged 0 129 t) ≡ Value f → (cond (ltb f 128) (decimal f) (45 ∷ decimal (256 - f)) ≡ 45 ∷ t) × (f < 256)
+minus-read : (f : ℕ) (t : List ℕ) → negated (ranged 0 129 t) ≡ Ok f → (cond (ltb f 128) (decimal f) (45 ∷ decimal (256 - f)) ≡ 45 ∷ t) × (f < 256)
 minus-read f t e =
     let u = negated-read (ranged 0 129 t) f e in
     let g = u.0 in
@@ -130,7 +130,7 @@ minus-read f t e =
     let m : 256 - f ≡ g = omega arith in
     (rw (le-ltb f 128 (omega arith), m, v.0) refl, omega arith)
 
-pub labelled-read : (f : ℕ) (t : List ℕ) → labelled t ≡ Value f → (cond (ltb f 128) (decimal f) (45 ∷ decimal (256 - f)) ≡ t) × (f < 256)
+pub labelled-read : (f : ℕ) (t : List ℕ) → labelled t ≡ Ok f → (cond (ltb f 128) (decimal f) (45 ∷ decimal (256 - f)) ≡ t) × (f < 256)
 unfolding labelled
 labelled-read f [] e = let u = zero-read 128 f [] (lit≤ tt) e in (rw (lt-ltb f 128 u.1) u.0, omega arith)
 labelled-read f (b ∷ t) e =
@@ -139,17 +139,6 @@ labelled-read f (b ∷ t) e =
     (λ m. let u = zero-read 128 f (b ∷ t) (lit≤ tt) (rw m at e) in (rw (lt-ltb f 128 u.1) u.0, omega arith))
 
 -- ---- words
-
-given-small : (d n : ℕ) → d < 16 → given d n ≡ n
-unfolding given
-given-small d n h = rw (le-ltb 15 d (omega arith)) refl
-
-given_below : (d n : ℕ) → given d n < 65536 → (d < 16) × (given d n ≡ n)
-unfolding given
-given_below d n h =
-    split (ltb 15 d)
-    (λ t. let z : 65536 < 65536 = rw t at h in let y : ⊥ = omega arith in absurd y)
-    (λ t. (omega (arith, ltb-false 15 d t), rw t refl))
 
 -- the four digits of a word
 module _ (f : ℕ) (h : f < 65536) where
@@ -162,36 +151,51 @@ module _ (f : ℕ) (h : f < 65536) where
       of : (u v w a b c d : ℕ) → f ≡ 16 * u + d → u ≡ 16 * v + c → v ≡ 16 * w + b → w ≡ a → a * 4096 + b * 256 + c * 16 + d ≡ f
       of u v w a b c d p q r s = omega arith
 
-  pub worded-spelt : worded (hex f) ≡ Value f
-  unfolding worded word_in hex word_of
+  pub worded-spelt : worded (hex f) ≡ Ok f
+  unfolding worded word_in word_by hex word_of
   worded-spelt =
       let a : f / 4096 < 16 = omega arith in
       let b : f / 256 % 16 < 16 = omega arith in
       let c : f / 16 % 16 < 16 = omega arith in
       let d : f % 16 < 16 = omega arith in
-      rw (digit-reads _ a, digit-reads _ b, digit-reads _ c, digit-reads _ d, given-small _ _ a, given-small _ _ b, given-small _ _ c, given-small _ _ d, sum, lt-ltb f 65536 h) refl
+      rw (digit-reads _ a, digit-reads _ b, digit-reads _ c, digit-reads _ d, sum) refl
 
-word-in : (w f : ℕ) → word_in w ≡ Value f → (w < 65536) × (w ≡ f)
-unfolding word_in
-word-in w f e = split (ltb w 65536) (λ t. (ltb-true w 65536 t, field-field (rw t at e))) (λ t. malformed-field (rw t at e))
+-- the digits of a word that is read
+record Digits (p q r s : Option ℕ) (f : ℕ) : Type 0 where
+  a : ℕ
+  b : ℕ
+  c : ℕ
+  d : ℕ
+  first : p ≡ Some a
+  second : q ≡ Some b
+  third : r ≡ Some c
+  fourth : s ≡ Some d
+  word : a * 4096 + b * 256 + c * 16 + d ≡ f
 
-word_read : (a b c d f : ℕ) → word_in (word_of a b c d) ≡ Value f → (hex f ≡ a ∷ b ∷ c ∷ d ∷ []) × (f < 65536)
+digits_in : (p q r s : Option ℕ) (f : ℕ) → word_in (word_by p q r s) ≡ Ok f → Digits p q r s f
+unfolding word_in word_by
+digits_in None q r s f e = malformed-field e
+digits_in (Some a) None r s f e = malformed-field e
+digits_in (Some a) (Some b) None s f e = malformed-field e
+digits_in (Some a) (Some b) (Some c) None f e = malformed-field e
+digits_in (Some a) (Some b) (Some c) (Some d) f e = record { a = a; b = b; c = c; d = d; first = refl; second = refl; third = refl; fourth = refl; word = field-field e }
+
+word_read : (a b c d f : ℕ) → word_in (word_of a b c d) ≡ Ok f → (hex f ≡ a ∷ b ∷ c ∷ d ∷ []) × (f < 65536)
 unfolding word_of hex
 word_read a b c d f e =
-    let u = word-in (word_of a b c d) f e in
-    let p = given_below (digit_of a) _ u.0 in
-    let q = given_below (digit_of b) _ (rw p.1 at u.0) in
-    let r = given_below (digit_of c) _ (rw (p.1, q.1) at u.0) in
-    let s = given_below (digit_of d) _ (rw (p.1, q.1, r.1) at u.0) in
-    let w = sym (p.1 ∙ q.1 ∙ r.1 ∙ s.1) ∙ u.1 in
-    let i = digits_of (digit_of a) (digit_of b) (digit_of c) (digit_of d) f p.0 q.0 r.0 s.0 w in
-    (rw (i.0, i.1, i.2, i.3, digit-spells a p.0, digit-spells b q.0, digit-spells c r.0, digit-spells d s.0) refl, i.4)
+    let u = digits_in (digit_of a) (digit_of b) (digit_of c) (digit_of d) f e in
+    let p = digit-spells a u.a u.first in
+    let q = digit-spells b u.b u.second in
+    let r = digit-spells c u.c u.third in
+    let s = digit-spells d u.d u.fourth in
+    let i = digits_of u.a u.b u.c u.d f p.1 q.1 r.1 s.1 u.word in
+    (rw (i.0, i.1, i.2, i.3, p.0, q.0, r.0, s.0) refl, i.4)
   where
     digits_of : (a b c d f : ℕ) → a < 16 → b < 16 → c < 16 → d < 16 → a * 4096 + b * 256 + c * 16 + d ≡ f
         → (f / 4096 ≡ a) × (f / 256 % 16 ≡ b) × (f / 16 % 16 ≡ c) × (f % 16 ≡ d) × (f < 65536)
     digits_of a b c d f p q r s w = (omega arith, omega arith, omega arith, omega arith, omega arith)
 
-pub worded-read : (f : ℕ) (t : List ℕ) → worded t ≡ Value f → (hex f ≡ t) × (f < 65536)
+pub worded-read : (f : ℕ) (t : List ℕ) → worded t ≡ Ok f → (hex f ≡ t) × (f < 65536)
 unfolding worded
 worded-read f [] e = malformed-field e
 worded-read f (a ∷ []) e = malformed-field e
@@ -215,7 +219,7 @@ fits Index low count = leb (low + count) 1000
 fits Unread low count = true
 
 module _ (low count f : ℕ) where
-  pub reads-spelt : (k : Kind) → fits k low count ≡ true → f < count → omitted k f ≡ false → taken_as k low count (spell k low f) ≡ Value f
+  pub reads-spelt : (k : Kind) → fits k low count ≡ true → f < count → omitted k f ≡ false → taken_as k low count (spell k low f) ≡ Ok f
   unfolding fits omitted taken_as spell nonzero
   reads-spelt Register t h o = marked-spelt low count f (leb-true _ _ t) h
   reads-spelt Number t h o = ranged-spelt low count f (leb-true _ _ t) h
@@ -224,7 +228,7 @@ module _ (low count f : ℕ) where
   reads-spelt Index t h o = rw (marked-spelt low count f (leb-true _ _ t) h, o) refl
   reads-spelt Unread t h o = absurd (false≢true (sym o))
 
-  pub spells-read : (k : Kind) (t : List ℕ) → fits k low count ≡ true → taken_as k low count t ≡ Value f
+  pub spells-read : (k : Kind) (t : List ℕ) → fits k low count ≡ true → taken_as k low count t ≡ Ok f
       → (spell k low f ≡ t) × (f < count) × (omitted k f ≡ false)
   unfolding fits omitted taken_as spell
   spells-read Register t h e = let u = marked-read low count f t (leb-true _ _ h) e in (u.0, u.1, refl)
@@ -251,8 +255,8 @@ module _ (low count f : ℕ) where
 
 -- ---- what is malformed comes before what lies outside its field
 
-pub malformed-first : (a : Parsed) → joined a Malformed ≡ Malformed
+pub malformed-first : (a : Parsed) → joined a (Err Malformed) ≡ (Err Malformed)
 unfolding joined
-malformed-first Malformed = refl
-malformed-first Outside = refl
-malformed-first (Value f) = refl
+malformed-first (Err Malformed) = refl
+malformed-first (Err Outside) = refl
+malformed-first (Ok f) = refl

@@ -12,12 +12,12 @@ use Rattle.line_operand.specs.declared.Place.TheVariants.{Second}
 use Rattle.line_operand.specs.declared.Kind.{Kind}
 use Rattle.line_operand.specs.declared.Kind.TheVariants.{Register, Number, Label, Word, Index, Unread}
 use Rattle.line_operand.specs.declared.Shape.{Shape}
-use Rattle.line_operand.specs.declared.Parsed.{Parsed}
-use Rattle.line_operand.specs.declared.Parsed.TheVariants.{Malformed, Outside, Value}
+use Rattle.std.proofs.Common.{Ok, Err}
+use Rattle.line_operand.specs.declared.OperandError.TheVariants.{Malformed, Outside}
 use Rattle.text.specs.Texts.{hex}
 use Rattle.line_operand.specs.Numerals.{before, onward}
 use Rattle.line_operand.specs.Shapes.{low_bit, end_bit, unit_of, count_of, field_of, meets, covers}
-use Rattle.line_operand.specs.Operands.{spell, omitted, piece, sep_after, tail, taken_as, placed, taken, joined, hidden, optional, sum_after, rest_after, finished, reads}
+use Rattle.line_operand.specs.Operands.{Parsed, spell, omitted, piece, sep_after, tail, taken_as, placed, taken, joined, hidden, optional, sum_after, rest_after, finished, reads}
 use Rattle.choice.proofs.TestLaws.{split, both, neither}
 use Rattle.line_operand.proofs.NumeralLaws.{Starts, cut, onward-starts, cut-plain, two_digits, three-digits}
 use Rattle.line_operand.proofs.PlaceLaws.{field_below, field-made, field-other, field-first, field_both, field-zero, Digit, field-within}
@@ -154,13 +154,13 @@ module _ (s : Shape) (ss : List Shape) (sep a n : ℕ) where
 
   Taken : Type 0
   Taken =
-      (sum_after s (Value a) printed ≡ Value (cond (hidden s.kind) a (a + unit_of s.place * field)))
+      (sum_after s (Ok a) printed ≡ Ok (cond (hidden s.kind) a (a + unit_of s.place * field)))
       × (rest_after s.kind printed ≡ tail (sep_after s sep n) ss n)
 
   hidden_taken : hidden s.kind ≡ true → Taken
   unfolding Taken printed field piece sep_after
   hidden_taken h =
-      let k = skips s (Value a) (tail sep ss n) h in
+      let k = skips s (Ok a) (tail sep ss n) h in
       rw (hidden-omitted s.kind (field_of s.place n) h, h) (k.0, k.1)
 
   missing-taken : omitted s.kind field ≡ true → hidden s.kind ≡ false → silent ss ≡ true → Taken
@@ -190,7 +190,7 @@ module _ (s : Shape) (ss : List Shape) (sep a n : ℕ) where
       (seen-taken u.0)
 
 -- a printed instruction reads back to what the line shows of it
-pub tail-reads : (ss : List Shape) (sep a n : ℕ) → fitting ss ≡ true → ordered ss ≡ true → reads (Value a) ss (tail sep ss n) ≡ Value (shown a ss n)
+pub tail-reads : (ss : List Shape) (sep a n : ℕ) → fitting ss ≡ true → ordered ss ≡ true → reads (Ok a) ss (tail sep ss n) ≡ Ok (shown a ss n)
 unfolding reads finished shown tail Taken printed field
 tail-reads [] sep a n f o = refl
 tail-reads (s ∷ ss) sep a n f o =
@@ -201,17 +201,17 @@ tail-reads (s ∷ ss) sep a n f o =
 
 -- a sum that has failed stays so
 fails : Parsed → Bool
-fails Malformed = true
-fails Outside = true
-fails (Value f) = false
+fails (Err Malformed) = true
+fails (Err Outside) = true
+fails (Ok f) = false
 
 fails-joined : (o x : Parsed) → fails o ≡ true → fails (joined o x) ≡ true
 unfolding fails joined
-fails-joined Malformed x h = refl
-fails-joined Outside Malformed h = refl
-fails-joined Outside Outside h = refl
-fails-joined Outside (Value f) h = refl
-fails-joined (Value f) x h = absurd (false≢true h)
+fails-joined (Err Malformed) x h = refl
+fails-joined (Err Outside) (Err Malformed) h = refl
+fails-joined (Err Outside) (Err Outside) h = refl
+fails-joined (Err Outside) (Ok f) h = refl
+fails-joined (Ok f) x h = absurd (false≢true h)
 
 fails-sum : (s : Shape) (o : Parsed) (t : List ℕ) → fails o ≡ true → fails (sum_after s o t) ≡ true
 unfolding sum_after fails
@@ -224,7 +224,7 @@ fails-reads [] o [] h = h
 fails-reads [] o (x ∷ t) h = refl
 fails-reads (s ∷ ss) o t h = fails-reads ss (sum_after s o t) (rest_after s.kind t) (fails-sum s o t h)
 
-no_field : {A : Type 0} (ss : List Shape) (o : Parsed) (t : List ℕ) (m : ℕ) → fails o ≡ true → reads o ss t ≡ Value m → A
+no_field : {A : Type 0} (ss : List Shape) (o : Parsed) (t : List ℕ) (m : ℕ) → fails o ≡ true → reads o ss t ≡ Ok m → A
 unfolding fails
 no_field ss o t m h e = absurd (false≢true (sym (ap fails e) ∙ fails-reads ss o t h))
 
@@ -278,12 +278,12 @@ module _ (sep a m : ℕ) where
   -- what an operand was taken for
   took : (s : Shape) (ss : List Shape) (t : List ℕ) (o : Parsed) → taken_as s.kind s.low (count_of s.place) (before 44 t) ≡ o
       → fitting (s ∷ ss) ≡ true → scattered (s ∷ ss) ≡ true → clear a (s ∷ ss) ≡ true
-      → ((b : ℕ) → clear b ss ≡ true → reads (Value b) ss (onward 44 t) ≡ Value m → Came ss 44 b m (onward 44 t))
-      → reads (joined (Value a) (placed s.place o)) ss (onward 44 t) ≡ Value m → Came (s ∷ ss) sep a m (sep ∷ t)
+      → ((b : ℕ) → clear b ss ≡ true → reads (Ok b) ss (onward 44 t) ≡ Ok m → Came ss 44 b m (onward 44 t))
+      → reads (joined (Ok a) (placed s.place o)) ss (onward 44 t) ≡ Ok m → Came (s ∷ ss) sep a m (sep ∷ t)
   unfolding joined placed fails
-  took s ss t Malformed w f p c ih e = no_field ss Malformed (onward 44 t) m refl e
-  took s ss t Outside w f p c ih e = no_field ss Outside (onward 44 t) m refl e
-  took s ss t (Value g) w f p c ih e =
+  took s ss t (Err Malformed) w f p c ih e = no_field ss (Err Malformed) (onward 44 t) m refl e
+  took s ss t (Err Outside) w f p c ih e = no_field ss (Err Outside) (onward 44 t) m refl e
+  took s ss t (Ok g) w f p c ih e =
       let u = spells-read s.low (count_of s.place) g s.kind (before 44 t) (fitting-cons s ss f).0 w in
       let x = (scattered-cons s ss p).0 in
       let z = clear-cons a s ss c in
@@ -292,7 +292,7 @@ module _ (sep a m : ℕ) where
 
 -- a text that is read as a number is what the number prints
 pub reads-tail : (ss : List Shape) (sep a m : ℕ) (t : List ℕ) → fitting ss ≡ true → scattered ss ≡ true → clear a ss ≡ true → Starts sep t
-    → reads (Value a) ss t ≡ Value m → Came ss sep a m t
+    → reads (Ok a) ss t ≡ Ok m → Came ss sep a m t
 unfolding reads finished tail sum_after rest_after taken fails
 reads-tail [] sep a m [] f p c b e = record { prints = refl; keeps = λ q h. ap (field_of q) (sym (field-field e)) }
 reads-tail [] sep a m (x ∷ t) f p c b e = malformed-field e
@@ -302,7 +302,7 @@ reads-tail (s ∷ ss) sep a m [] f p c b e =
     let z = clear-cons a s ss c in
     let i = reads-tail ss sep a m [] (fitting-cons s ss f).1 (scattered-cons s ss p).1 z.1 tt (rw h at e) in
     came-past s ss sep a m [] i (optional-omitted s.kind (field_of s.place m) h (i.keeps s.place (scattered-cons s ss p).0 ∙ z.0)))
-    (λ h. no_field ss Malformed [] m refl (rw h at e))
+    (λ h. no_field ss (Err Malformed) [] m refl (rw h at e))
 reads-tail (s ∷ ss) sep a m (x ∷ t) f p c b e =
     split (hidden s.kind)
     (λ h.

@@ -6,14 +6,16 @@ use Rattle.choice.proofs.Rows.{Row, one, some, flag, hold}
 use Rattle.text.specs.Texts.{bytes_of, leading, decimal}
 use Rattle.decode.specs.Operands.{BR, RX, N1, NI, LABEL8}
 use Rattle.line_operand.specs.declared.Place.TheVariants.{Upper, Base, Second}
-use Rattle.line_operand.specs.Shapes.{count_of, field_of, meets, shapes, shape_of}
+use Rattle.line_operand.specs.Shapes.{unit_of, count_of, field_of, meets, shapes, shape_of}
 use Rattle.line_operand.specs.Operands.{spell, omitted, piece}
 
 pub rows : List Row
 unfolding bytes_of leading decimal field_of meets shapes shape_of spell omitted piece
 rows =
+    -- fields::unit: the first bit of the place; what one is worth behind it
+    one (unit_of Base) 256 8 1024
     -- fields::count: the largest number instead of how many there are; that of eight bits
-    one (count_of Upper) 16 15 256
+    ∷ one (count_of Upper) 16 15 256
     -- fields::in_second: bits 6 and 7 are said to be in the second word; the second word is not
     ∷ one (flag (meets Base Second) + 2 * flag (meets Second Second)) 2 3 0
     -- shapes::shape_of: base registers are numbered from 0; the count of a shift is held as it is

@@ -1,33 +1,34 @@
 // Fields at their places, and which operands are left out.
-ghost use Rattle.std.specs.Prelude.{◌≡◌, ◌≤◌};
-ghost use Rattle.line_operand.specs.Shapes.{count_of, field_of, meets};
+ghost use Rattle.std.specs.Prelude.{◌≡◌, ◌<◌, ◌≤◌};
+ghost use Rattle.line_operand.specs.Shapes.{unit_of, count_of, field_of, meets};
 ghost use Rattle.line_operand.specs.Operands.{omitted};
 
 use crate::{Kind, Place};
 
-// The number at a place.
-pub(crate) fn field(p: Place, n: u64) -> u16
-    ensures { result ≡ field_of p n }
+// What one is worth at a place.
+pub fn unit(p: Place) -> u64
+    ensures value { result ≡ unit_of p }
+    ensures some { 0 < result }
+    ensures small { result ≤ 65536 }
 {
     match p {
-        Place::Nowhere => 0,
-        Place::Lower => (n % 16) as u16,
-        Place::Upper => (n / 16 % 16) as u16,
-        Place::Byte => (n % 256) as u16,
-        Place::Base => (n / 256 % 4) as u16,
-        Place::Top => (n / 1024 % 64) as u16,
-        Place::Second => (n / 65536 % 65536) as u16,
+        Place::Nowhere | Place::Lower | Place::Byte => 1,
+        Place::Upper => 16,
+        Place::Base => 256,
+        Place::Top => 1024,
+        Place::Second => 65536,
     }
 }
 
 // How many numbers fit at a place.
 pub fn count(p: Place) -> u64
-    ensures { (result ≡ count_of p) × (result ≤ 65536) }
+    ensures value { result ≡ count_of p }
+    ensures some { 0 < result }
+    ensures small { result ≤ 65536 }
 {
     match p {
         Place::Nowhere => 1,
-        Place::Lower => 16,
-        Place::Upper => 16,
+        Place::Lower | Place::Upper => 16,
         Place::Byte => 256,
         Place::Base => 4,
         Place::Top => 64,
@@ -35,31 +36,30 @@ pub fn count(p: Place) -> u64
     }
 }
 
+// The number at a place.
+#[tactic(auto, unfolding(crate::specs::Shapes::field_of))]
+pub(crate) fn field(p: Place, n: u64) -> u16
+    ensures { result ≡ field_of p n }
+{
+    (n / unit(p) % count(p)) as u16
+}
+
 // Whether a place is in the second word.
+#[tactic(auto, unfolding(crate::specs::Shapes::meets))]
 pub fn in_second(p: Place) -> bool
     ensures { result ≡ meets p Place.Second }
 {
-    match p {
-        Place::Nowhere => false,
-        Place::Lower => false,
-        Place::Upper => false,
-        Place::Byte => false,
-        Place::Base => false,
-        Place::Top => false,
-        Place::Second => true,
-    }
+    p == Place::Second
 }
 
 // Whether an operand with the field f is left out.
+#[tactic(auto, unfolding(crate::specs::Operands::omitted))]
 pub(crate) fn omitted(k: Kind, f: u16) -> bool
     ensures { result ≡ omitted k f }
 {
     match k {
-        Kind::Register => false,
-        Kind::Number => false,
-        Kind::Label => false,
-        Kind::Word => false,
         Kind::Index => f == 0,
         Kind::Unread => true,
+        _ => false,
     }
 }

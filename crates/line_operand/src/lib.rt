@@ -6,7 +6,7 @@ pub mod print;
 pub mod shapes;
 
 // The place of a field: bits 12 to 15, 8 to 11, 8 to 15, 6 and 7 or 0 to 5 of the first word, or the second word.
-#[derive(Clone, Copy)]
+#[derive(Clone, Copy, PartialEq, Eq)]
 pub enum Place {
     Nowhere,
     Lower,
@@ -18,7 +18,7 @@ pub enum Place {
 }
 
 // How an operand is spelt: "R" and a number, a number, a displacement, four hexadecimal digits, an index register, or not at all.
-#[derive(Clone, Copy)]
+#[derive(Clone, Copy, PartialEq, Eq)]
 pub enum Kind {
     Register,
     Number,
@@ -36,10 +36,9 @@ pub struct Shape {
     pub low: u8,
 }
 
-// What is read of operands: not of the right form, outside its field, or a number.
-#[derive(Clone, Copy)]
-pub enum Parsed {
+// Why operands are not read: they are not of the right form, or one lies outside its field.
+#[derive(Clone, Copy, PartialEq, Eq)]
+pub enum OperandError {
     Malformed,
     Outside,
-    Value(u64),
 }

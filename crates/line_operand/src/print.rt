@@ -1,73 +1,68 @@
-// Operands put into a buffer of 256 bytes from a place on; each function returns the place after it. Each caller leaves room for it.
-ghost use Rattle.std.specs.Prelude.{◌≡◌, ◌∷◌, ◌+◌, ◌≤◌};
-ghost use Rattle.text.specs.Texts.{decimal, Wrote};
+// Operands put behind a text. Each caller leaves room for them.
+ghost use Rattle.std.specs.Prelude.{◌≡◌, ◌∷◌, ◌++◌, ◌+◌, ◌≤◌};
+ghost use Rattle.arrayvec.specs.ArrayVec.{array_vec_len};
+ghost use Rattle.text.specs.Texts.{decimal};
 ghost use Rattle.line_operand.specs.Operands.{spell, piece, sep_after};
 
 use crate::fields::{field, omitted};
 use crate::{Kind, Shape};
-use text::{put, put_decimal, put_hex};
-
-// What was printed so far ends before byte `at`; `sep` separates the next operand from it.
-#[derive(Clone, Copy)]
-pub struct Tail {
-    pub at: usize,
-    pub sep: u8,
-}
+use arrayvec::ArrayVec;
+use text::{put_decimal, put_hex};
 
 // A byte and a number after it: at most eleven bytes.
-fn put_marked(out: &mut [u8; 256], at: usize, mark: u8, n: u32) -> usize
-    requires { at + 11 ≤ 256 }
-    ensures { (Wrote out.old at (mark ∷ decimal n) out.new result) × (result ≤ at + 11) }
+fn put_marked<const N: usize>(out: &mut ArrayVec<u8, N>, mark: u8, n: u32)
+    requires { array_vec_len out.old + 11 ≤ N }
+    ensures text { out.new.items ≡ out.old.items ++ mark ∷ decimal n }
+    ensures short { array_vec_len out.new ≤ array_vec_len out.old + 11 }
 {
-    let at = put(out, at, mark);
-    put_decimal(out, at, n)
+    out.push(mark);
+    put_decimal(out, n);
 }
 
 // A displacement. Every caller's field has eight bits.
-fn put_label(out: &mut [u8; 256], at: usize, f: u16) -> usize
-    requires { at + 11 ≤ 256 }
-    ensures { (Wrote out.old at (spell Kind.Label 0 f) out.new result) × (result ≤ at + 11) }
+#[tactic(auto, unfolding(crate::specs::Operands::spell))]
+fn put_label<const N: usize>(out: &mut ArrayVec<u8, N>, f: u16)
+    requires { array_vec_len out.old + 11 ≤ N }
+    ensures text { out.new.items ≡ out.old.items ++ spell Kind.Label 0 f }
+    ensures short { array_vec_len out.new ≤ array_vec_len out.old + 11 }
 {
     if f < 128 {
-        return put_decimal(out, at, f as u32);
+        put_decimal(out, f as u32);
+    } else {
+        put_marked(out, b'-', 256u32.saturating_sub(f as u32));
     }
-    if f < 256 {
-        return put_marked(out, at, b'-', 256 - f as u32);
-    }
-    put_marked(out, at, b'-', 0)
 }
 
 // The field f of an operand.
-fn put_field(out: &mut [u8; 256], at: usize, k: Kind, low: u8, f: u16) -> usize
-    requires { at + 11 ≤ 256 }
-    ensures { (Wrote out.old at (spell k low f) out.new result) × (result ≤ at + 11) }
+#[tactic(auto, unfolding(crate::specs::Operands::spell))]
+fn put_field<const N: usize>(out: &mut ArrayVec<u8, N>, k: Kind, low: u8, f: u16)
+    requires { array_vec_len out.old + 11 ≤ N }
+    ensures text { out.new.items ≡ out.old.items ++ spell k low f }
+    ensures short { array_vec_len out.new ≤ array_vec_len out.old + 11 }
 {
     let n = low as u32 + f as u32;
     match k {
-        Kind::Register => put_marked(out, at, b'R', n),
-        Kind::Number => put_decimal(out, at, n),
-        Kind::Label => put_label(out, at, f),
-        Kind::Word => put_hex(out, at, f),
-        Kind::Index => put_marked(out, at, b'R', n),
-        Kind::Unread => at,
+        Kind::Register | Kind::Index => put_marked(out, b'R', n),
+        Kind::Number => put_decimal(out, n),
+        Kind::Label => put_label(out, f),
+        Kind::Word => put_hex(out, f),
+        Kind::Unread => {}
     }
 }
 
-// An operand of the instruction n after its separator: at most twelve bytes.
-pub fn put_operand(out: &mut [u8; 256], t: Tail, s: Shape, n: u64) -> Tail
-    requires { t.at + 12 ≤ 256 }
-    ensures { (Wrote out.old t.at (piece s t.sep n) out.new result.at) × (result.sep ≡ sep_after s t.sep n) × (result.at ≤ t.at + 12) }
+// An operand of the instruction n after the separator `sep`, at most twelve bytes; what separates the next one.
+#[tactic(auto, unfolding(crate::specs::Operands::piece, crate::specs::Operands::sep_after))]
+pub fn put_operand<const N: usize>(out: &mut ArrayVec<u8, N>, sep: u8, s: Shape, n: u64) -> u8
+    requires { array_vec_len out.old + 12 ≤ N }
+    ensures text { out.new.items ≡ out.old.items ++ piece s sep n }
+    ensures next { result ≡ sep_after s sep n }
+    ensures short { array_vec_len out.new ≤ array_vec_len out.old + 12 }
 {
-    let k = s.kind;
-    let at = t.at;
-    let sep = t.sep;
-    let low = s.low;
-    let place = s.place;
-    let f = field(place, n);
-    if omitted(k, f) {
-        return Tail { at, sep };
+    let f = field(s.place, n);
+    if omitted(s.kind, f) {
+        return sep;
     }
-    let next = put(out, at, sep);
-    let end = put_field(out, next, k, low, f);
-    Tail { at: end, sep: b',' }
+    out.push(sep);
+    put_field(out, s.kind, s.low, f);
+    b','
 }

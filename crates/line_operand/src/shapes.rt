@@ -11,6 +11,7 @@ fn shape(kind: Kind, place: Place, low: u8) -> Shape
 }
 
 // The shape of an operand by its number.
+#[tactic(auto, unfolding(crate::specs::Shapes::shapes, crate::specs::Shapes::shape_of))]
 pub fn shape_of(operand: u64) -> Shape
     ensures { result ≡ shape_of operand }
 {

@@ -1,90 +1,59 @@
--- A line cut from a place on, digit after digit, and the next operand of a line. Assumes nothing.
+-- A text cut at the place of a byte, and digit after digit. Assumes nothing.
 use Prim.Native.Nat.{ℕ, suc, ◌+◌, ◌*◌, ◌-◌, ◌≤◌, ◌<◌}
 use mathlib.Core.Path.{◌≡◌, refl, sym, ap, ◌∙◌}
 use mathlib.Core.Bool.{Bool, true, false, cond, ◌&&◌}
-use mathlib.Core.List.{List, [], ◌∷◌, ◌++◌, append_assoc, append-nil}
+use mathlib.Core.List.{List, [], ◌∷◌}
 use native.Mathlib.Omega.{arith}
+use lib.Dec.{eqb, leb, ltb}
+use lib.ListN.{length, get_or, take, drop, drop_of_length-le}
+use lib.Seq.{drop-cons}
 use native.Mathlib.Numerals.{add-one}
-use lib.Dec.{leb, ltb}
-use lib.ListN.{length, get_or, take, drop, length-drop}
-use lib.Seq.{take-suc, drop-cons, split_at, get_or-drop, drop-length, take-length}
-use borrow.Author.Tests.{eq-eqb, ne_eqb, le-ltb, le-leb, ltb-true, ltb-false}
-use Rattle.line_operand.specs.declared.Parsed.{Parsed}
-use Rattle.line_operand.specs.declared.Parsed.TheVariants.{Malformed}
+use Rattle.std.specs.Char.{is_ascii_digit}
+use borrow.Author.Tests.{le-ltb, ltb-false}
+use Rattle.std.proofs.Common.{Option, None, Some, Err, ◌==◌}
+use Rattle.std.specs.List.{position, position_or_len}
+use Rattle.std.specs.Option.{unwrap_or}
+use Rattle.line_operand.specs.declared.OperandError.TheVariants.{Malformed}
 use Rattle.line_operand.specs.Numerals.{digits, value, plain, numeral, before, onward}
-use Rattle.line_operand.specs.declared.Shape.{Shape}
-use Rattle.line_operand.specs.Operands.{inside, ranged, taken, joined, hidden, optional, sum_after, rest_after}
+use Rattle.line_operand.specs.Operands.{Parsed, inside, ranged}
 use Rattle.choice.proofs.TestLaws.{split}
-use Rattle.line_parse.specs.Scans.{capped, scanned, Cut}
+use Rattle.line_parse.specs.Scans.{capped, scanned}
 
--- ---- a line cut from a place on
+-- ---- a text cut at the place of a byte
 
--- what is known after the bytes before place i
-pub record Sought (line : List ℕ) (from b i : ℕ) : Type 0 where
-  pub low : from ≤ i
-  pub high : i ≤ length line
-  pub head : take (i - from) (drop from line) ++ before b (drop i line) ≡ before b (drop from line)
-  pub rest : onward b (drop i line) ≡ onward b (drop from line)
+module _ (b : ℕ) where
+  place : List ℕ → ℕ
+  place t = position_or_len (λ x. x == b) t
 
-module _ (l : List ℕ) (from b : ℕ) where
-  pub sought-start : from ≤ length l → Sought l from b from
-  sought-start h = let z : from - from ≡ 0 = omega arith in record { low = omega arith; high = h; head = rw z refl; rest = refl }
+  place_within : (t : List ℕ) → place t ≤ length t
+  unfolding place
+  place_within [] = omega arith
+  place_within (x ∷ t) = split (eqb x b) (λ e. rw e (omega arith)) (λ e. rw e (omega (arith, place_within t)))
 
-  pub sought-on : (i : ℕ) → i < length l → (get_or l i 0 ≡ b → ⊥) → Sought l from b i → Sought l from b (i + 1)
-  unfolding before onward
-  sought-on i h n s =
-      let p = s.low in
-      let d = length-drop from l in
-      let z : i + 1 - from ≡ suc (i - from) = omega arith in
-      let e : from + (i - from) ≡ i = omega arith in
-      let k : i - from < length (drop from l) = omega arith in
-      let q : take (suc (i - from)) (drop from l) ≡ take (i - from) (drop from l) ++ (get_or l i 0 ∷ []) =
-      take-suc (drop from l) (i - from) 0 k ∙ rw (get_or-drop from l (i - from) 0, e) refl in
-      record {
-        low = omega arith;
-        high = omega arith;
-        head = rw (z, q, append_assoc, add-one) (rw (drop-cons l i 0 h, ne_eqb (get_or l i 0) b n) at s.head);
-        rest = rw add-one (rw (drop-cons l i 0 h, ne_eqb (get_or l i 0) b n) at s.rest);
-      }
+  head : (t : List ℕ) → take (place t) t ≡ before b t
+  unfolding place before
+  head [] = refl
+  head (x ∷ t) = split (eqb x b) (λ e. rw e refl) (λ e. let z : 1 + place t ≡ suc (place t) = omega arith in rw (e, z) (ap (λ u. x ∷ u) (head t)))
 
-  pub sought-here : (i : ℕ) → i < length l → get_or l i 0 ≡ b → Sought l from b i → Cut l from b i
-  unfolding before onward
-  sought-here i h n s = record {
-    low = s.low;
-    high = s.high;
-    head = sym (append-nil _) ∙ (rw (drop-cons l i 0 h, eq-eqb (get_or l i 0) b n) at s.head);
-    rest = rw (drop-cons l i 0 h) (rw (drop-cons l i 0 h, eq-eqb (get_or l i 0) b n) at s.rest);
-  }
+  rest : (t : List ℕ) → drop (place t) t ≡ onward b t
+  unfolding place onward
+  rest [] = refl
+  rest (x ∷ t) = split (eqb x b) (λ e. rw e refl) (λ e. let z : 1 + place t ≡ suc (place t) = omega arith in rw (e, z) (rest t))
 
-  pub sought-end : (i : ℕ) → i ≡ length l → Sought l from b i → Cut l from b i
-  unfolding before onward
-  sought-end i e s =
-      let z : drop i l ≡ [] = rw e (drop-length l) in
-      record {
-        low = s.low;
-        high = s.high;
-        head = sym (append-nil _) ∙ (rw z at s.head);
-        rest = rw z (rw z at s.rest);
-      }
+  pub found-place : (t : List ℕ) → (unwrap_or (position (λ x. x == b) t) (length t) ≤ length t) × (take (unwrap_or (position (λ x. x == b) t) (length t)) t ≡ before b t)
+      × (drop (unwrap_or (position (λ x. x == b) t) (length t)) t ≡ onward b t)
+  unfolding place
+  found-place t =
+      let w = place_within t in
+      split (ltb (place t) (length t))
+      (λ e. rw e (w, head t, rest t))
+      (λ e. let z : length t ≡ place t = omega (arith, ltb-false _ _ e) in rw (e, z) (omega arith, head t, rest t))
 
 -- ---- digits
 
-digits_append : (t u : List ℕ) → digits (t ++ u) ≡ digits t && digits u
-unfolding digits
-digits_append [] u = refl
-digits_append (b ∷ t) u = split (leb 48 b && leb b 57) (λ e. rw e (digits_append t u)) (λ e. rw e refl)
-
-value-append : (v : ℕ) (t u : List ℕ) → value v (t ++ u) ≡ value (value v t) u
-unfolding value
-value-append v [] u = refl
-value-append v (b ∷ t) u = value-append (10 * v + (b - 48)) t u
-
--- the first i bytes are digits, and v is their number, capped
-pub record Scanning (t : List ℕ) (v i : ℕ) : Type 0 where
-  pub high : i ≤ length t
-  pub all : digits (take i t) ≡ true
-  pub sum : v ≡ capped (value 0 (take i t))
-  pub small : v ≤ 100000
+-- the number of a text of digits behind the number v
+unfoldable pub scanned-on : ℕ → List ℕ → Option ℕ
+scanned-on v t = cond (digits t) (Some (capped (value v t))) None
 
 capped-step : (v d : ℕ) → capped (10 * capped v + d) ≡ capped (10 * v + d)
 unfolding capped
@@ -95,32 +64,35 @@ capped-step v d =
     let k = ltb-false v 100000 e in
     rw (e, le-ltb (10 * 100000 + d) 100000 (omega arith), le-ltb (10 * v + d) 100000 (omega arith)) refl)
 
-module _ (t : List ℕ) where
-  pub scan-start : Scanning t 0 0
-  unfolding digits value capped
-  scan-start = record { high = omega arith; all = refl; sum = refl; small = omega arith }
+-- a number that is capped between two digits
+capped-value : (v w : ℕ) (t : List ℕ) → capped v ≡ capped w → capped (value v t) ≡ capped (value w t)
+unfolding value
+capped-value v w [] e = e
+capped-value v w (b ∷ t) e =
+    capped-value (10 * v + (b - 48)) (10 * w + (b - 48)) t (sym (capped-step v (b - 48)) ∙ ap (λ (n : ℕ). capped (10 * n + (b - 48))) e ∙ capped-step w (b - 48))
 
-  pub scan-on : (v i w : ℕ) → i < length t → 48 ≤ get_or t i 0 → get_or t i 0 ≤ 57 → w ≡ capped (10 * v + (get_or t i 0 - 48)) → w ≤ 100000 → Scanning t v i → Scanning t w (i + 1)
-  unfolding digits value
-  scan-on v i w h a b e k s =
-      record {
-        high = omega arith;
-        all = rw (add-one, take-suc t i 0 h, digits_append, s.all, le-leb 48 _ a, le-leb _ 57 b) refl;
-        sum = rw (add-one, take-suc t i 0 h, value-append) (e ∙ rw s.sum (capped-step (value 0 (take i t)) (get_or t i 0 - 48)));
-        small = k;
-      }
+capped-twice : (v : ℕ) → capped (capped v) ≡ capped v
+unfolding capped
+capped-twice v = split (ltb v 100000) (λ e. rw (e, e) refl) (λ e. rw e refl)
 
-  pub scan-bad : (i : ℕ) → i < length t → leb 48 (get_or t i 0) && leb (get_or t i 0) 57 ≡ false → digits (take i t) ≡ true → 200000 ≡ scanned t
-  unfolding scanned digits
-  scan-bad i h e a =
-      let z : digits t ≡ false = ap digits (split_at t i 0 h) ∙ rw (digits_append, a, e) refl in
-      rw z refl
+pub scanned-start : (t : List ℕ) → scanned-on 0 t ≡ scanned t
+unfolding scanned scanned-on
+scanned-start t = refl
 
-  pub scan-end : (v i : ℕ) → i ≡ length t → Scanning t v i → v ≡ scanned t
-  unfolding scanned
-  scan-end v i e s =
-      let z : take i t ≡ t = rw e (take-length t) in
-      rw (← z, s.all) s.sum
+-- the bytes from the i-th on
+module _ (v i : ℕ) (t : List ℕ) (h : i < length t) where
+  pub scanned-digit : is_ascii_digit (get_or t i 0) ≡ true → scanned-on (capped (10 * v + (get_or t i 0 - 48))) (drop (i + 1) t) ≡ scanned-on v (drop i t)
+  unfolding scanned-on digits value
+  scanned-digit e =
+      rw (drop-cons t i 0 h, add-one, e, capped-value (capped (10 * v + (get_or t i 0 - 48))) (10 * v + (get_or t i 0 - 48)) (drop (suc i) t) (capped-twice _)) refl
+
+  pub scanned-other : is_ascii_digit (get_or t i 0) ≡ false → scanned-on v (drop i t) ≡ None
+  unfolding scanned-on digits
+  scanned-other e = rw (drop-cons t i 0 h, e) refl
+
+pub scanned-end : (v i : ℕ) (t : List ℕ) → v ≤ 100000 → length t ≤ i → scanned-on v (drop i t) ≡ Some v
+unfolding scanned-on digits value capped
+scanned-end v i t h l = rw (drop_of_length-le t {i = i} l) (split (ltb v 100000) (λ e. rw e refl) (λ e. let z : 100000 ≡ v = omega (arith, ltb-false v 100000 e) in rw (e, z) refl))
 
 -- ---- a number in its range
 
@@ -137,52 +109,15 @@ inside-capped low count v h =
     and-false true = refl
     and-false false = refl
 
-module _ (t : List ℕ) (low count : ℕ) where
-  pub number-unplain : plain t ≡ false → Malformed ≡ ranged low count t
-  unfolding ranged numeral
-  number-unplain p = rw (p) refl
+-- what the number of a plain text is read as
+unfoldable pub ranged-by : ℕ → ℕ → Option ℕ → Parsed
+ranged-by low count None = Err Malformed
+ranged-by low count (Some v) = inside low count v
 
-  small : capped (value 0 t) ≤ 100000
-  unfolding capped
-  small = split (ltb (value 0 t) 100000) (λ e. rw e (omega (arith, ltb-true (value 0 t) 100000 e))) (λ e. rw e (omega arith))
+pub number-read : (low count : ℕ) (t : List ℕ) → low + count ≤ 100000 → plain t ≡ true → ranged low count t ≡ ranged-by low count (scanned t)
+unfolding ranged numeral scanned ranged-by
+number-read low count t h p = split (digits t) (λ d. rw (p, d) (sym (inside-capped low count (value 0 t) h))) (λ d. rw (p, d) refl)
 
-  pub number-bad : (v : ℕ) → v ≡ scanned t → v ≡ 200000 → Malformed ≡ ranged low count t
-  unfolding ranged scanned numeral
-  number-bad v e z =
-      split (digits t)
-      (λ d.
-      let y : v ≡ capped (value 0 t) = rw d at e in
-      let n : ⊥ = omega (arith, small) in
-      absurd n)
-      (λ d. rw (d, and-false (plain t)) refl)
-    where
-      and-false : (b : Bool) → b && false ≡ false
-      and-false true = refl
-      and-false false = refl
-
-  pub number-good : (v : ℕ) → low + count ≤ 100000 → plain t ≡ true → v ≡ scanned t → (v ≡ 200000 → ⊥) → inside low count v ≡ ranged low count t
-  unfolding ranged scanned numeral
-  number-good v h p e n =
-      split (digits t)
-      (λ d.
-      let y : v ≡ capped (value 0 t) = rw d at e in
-      rw (p, d, y) (inside-capped low count (value 0 t) h))
-      (λ d. absurd (n (rw d at e)))
-
--- ---- the next operand of a line
-
-module _ (l : List ℕ) (s : Shape) (a : Parsed) (at : ℕ) where
-  pub step_end : at ≡ length l → (sum_after s a (drop at l) ≡ cond (optional s.kind) a Malformed) × (rest_after s.kind (drop at l) ≡ drop at l)
-  unfolding sum_after rest_after
-  step_end e =
-      let z : drop at l ≡ [] = rw e (drop-length l) in
-      rw z (refl, refl)
-
-  pub step-hidden : at < length l → hidden s.kind ≡ true → (sum_after s a (drop at l) ≡ a) × (rest_after s.kind (drop at l) ≡ drop at l)
-  unfolding sum_after rest_after
-  step-hidden h k = rw (drop-cons l at 0 h, k) (refl, refl)
-
-  pub step-taken : (end : ℕ) → at < length l → hidden s.kind ≡ false → Cut l (at + 1) 44 end
-      → (sum_after s a (drop at l) ≡ joined a (taken s (take (end - (at + 1)) (drop (at + 1) l)))) × (rest_after s.kind (drop at l) ≡ drop end l)
-  unfolding sum_after rest_after
-  step-taken end h k c = rw (c.head, c.rest, add-one, drop-cons l at 0 h, k) (refl, refl)
+pub number-unplain : (low count : ℕ) (t : List ℕ) → plain t ≡ false → ranged low count t ≡ Err Malformed
+unfolding ranged numeral
+number-unplain low count t p = rw p refl

@@ -1,4 +1,3 @@
--- The laws of requests and answers, and of the input read byte by byte; wrong answers.
+-- The laws of requests and answers; wrong answers.
 pub mod RequestLaws
-pub mod SessionLaws
 pub mod Wrong

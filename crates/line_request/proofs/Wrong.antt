@@ -4,13 +4,15 @@ use Rattle.choice.proofs.Rows.{Row, some, hold}
 use Rattle.text.specs.Texts.{bytes_of, numbered_line}
 use Rattle.line.proofs.Known.{lines}
 use Rattle.line_request.specs.Requests.{printing, words_asked, request_of, refused, print_text, words_text, answer_by, answer_to}
-use Rattle.line_request.specs.Session.{session, number_of, on_end, with_byte, on_byte, on_last}
+use Rattle.line_request.specs.Session.{session, begun, number_of, on_end, with_byte, on_byte, on_last}
 
 pub rows : List Row
-unfolding lines numbered_line printing words_asked request_of refused print_text words_text answer_by answer_to number_of on_end with_byte on_byte on_last
+unfolding lines numbered_line printing words_asked request_of refused print_text words_text answer_by answer_to begun number_of on_end with_byte on_byte on_last
 rows =
+    -- input::begin: a line stands before the input; a byte
+    some (begun.lines ∷ begun.at ∷ begun.line) (0 ∷ 0 ∷ []) (1 ∷ 0 ∷ []) (0 ∷ 1 ∷ 10 ∷ [])
     -- input::take: lines are counted from 0; a line of another form is refused by 14
-    some (on_byte (session (bytes_of "w 823F 0000") 11 4) 10).text (bytes_of "malformed line 5\n") (bytes_of "malformed line 4\n") (bytes_of "refused 14\n")
+    ∷ some (on_byte (session (bytes_of "w 823F 0000") 11 4) 10).text (bytes_of "malformed line 5\n") (bytes_of "malformed line 4\n") (bytes_of "refused 14\n")
     -- input::take: the words in the other order; no newline behind the answer
     ∷ some (on_byte (session (bytes_of "L STC 0,0200") 12 0) 10).text (bytes_of "9100 0200\n") (bytes_of "0200 9100\n") (bytes_of "9100 0200")
     -- input::take: the second word is malformed; the second word of an instruction of one word is printed
@@ -24,5 +26,5 @@ rows =
     ∷ []
 
 pub rows-hold : T (hold rows)
-unfolding rows lines numbered_line printing words_asked request_of refused print_text words_text answer_by answer_to number_of on_end with_byte on_byte on_last
+unfolding rows lines numbered_line printing words_asked request_of refused print_text words_text answer_by answer_to begun number_of on_end with_byte on_byte on_last
 rows-hold = tt

@@ -1,8 +1,7 @@
 -- The input of the program `lines` read byte by byte: where the reading stands, and the text that is written for each byte. Assumes nothing.
-use Rattle.std.specs.Prelude.{◌≡◌, ℕ, ◌+◌, ◌%◌, cond, List, [], ◌∷◌, ◌++◌, take, ◌==◌, nat_lt}
+use Rattle.std.specs.Prelude.{◌≡◌, ℕ, ◌+◌, ◌%◌, cond, List, [], ◌∷◌, ◌++◌, length, ◌==◌, nat_lt}
 use Rattle.text.specs.Texts.{newline, Text}
-use Rattle.line_request.specs.declared.Reading.{Reading}
-use Rattle.line_request.specs.declared.Turn.{Turn}
+use Rattle.line_request.specs.declared.input.Reading.{Reading}
 use Rattle.line_request.specs.Requests.{answer_to}
 
 -- the bytes of the present line, of which 65,537 are kept, so that one of more than 65,536 is seen; how many are kept; and how many lines were before it
@@ -13,6 +12,10 @@ pub record Session : Type 0 where
 
 abbrev pub session : List ℕ → ℕ → ℕ → Session
 session l at n = record { line = l; at = at; lines = n }
+
+-- the start of the input
+unfoldable pub begun : Session
+begun = session [] 0 0
 
 -- what comes of a part of the input: where the reading stands after it, and the text that is written for it
 pub record Heard : Type 0 where
@@ -43,11 +46,11 @@ on_last x = cond (x.at == 0) (heard x []) (on_end x)
 
 -- ---- what the code ensures
 
--- the session of a reading and of the buffer that it is lent
-unfoldable pub session_of : Reading → List ℕ → Session
-session_of r buffer = session (take r.at buffer) r.at r.lines
+-- the session of a reading
+unfoldable pub session_of : Reading → Session
+session_of r = session r.line.items (length r.line.items) r.lines
 
--- a turn with the buffer that it leaves, and the text in another, are what is heard. The buffer's bytes behind the present line are left free: no later turn looks at them
-pub record Turned (h : Heard) (was : List ℕ) (turn : Turn) (buffer is : List ℕ) : Type 0 where
-  pub session-is : session_of turn.reading buffer ≡ h.session
-  pub text-is : Text was h.text is turn.end
+-- a reading after a turn, and the text of so many bytes that it leaves in a buffer, are what is heard
+pub record Turned (h : Heard) (was : List ℕ) (r : Reading) (is : List ℕ) (end : ℕ) : Type 0 where
+  pub session-is : session_of r ≡ h.session
+  pub text-is : Text was h.text is end

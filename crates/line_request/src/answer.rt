@@ -1,119 +1,104 @@
-// A request and its answer, put at the start of a buffer of 256 bytes.
-ghost use Rattle.std.specs.Prelude.{◌≡◌, ◌≤◌, length};
-ghost use Rattle.text.specs.Texts.{Text};
+// A request and its answer, put behind a text.
+ghost use Rattle.std.specs.Prelude.{◌≡◌, ◌+◌, ◌≤◌, ◌++◌};
+ghost use Rattle.arrayvec.specs.ArrayVec.{array_vec_len};
 ghost use Rattle.line.specs.Lines.{line_of, read_line};
-ghost use Rattle.line_request.specs.Requests.{printing, words_asked, request_of, refused, print_text, words_text, answer_to};
+ghost use Rattle.line_request.specs.Requests.{words_asked, request_of, refused, print_text, words_text, answer_to};
 
 use crate::Request;
-use line::{Printed, Words};
+use arrayvec::ArrayVec;
+use line::{LineError, Words};
 use text::read::word;
-use text::{numbered_line, put, put_hex};
-
-fn printing(w: u32, v: u32) -> Request
-    ensures { result ≡ printing w v }
-{
-    if w < 65536 {
-        if v < 65536 {
-            return Request::Print(w as u16, v as u16);
-        }
-        return Request::Malformed;
-    }
-    Request::Malformed
-}
+use text::{put_bytes, put_hex, put_numbered_line};
 
 // Two words to print.
-fn words_asked(line: &[u8]) -> Request
+#[tactic(auto, unfolding(crate::specs::Requests::words_asked, crate::specs::Requests::printing))]
+fn words_asked(line: &[u8]) -> Option<Request>
     ensures { result ≡ words_asked line.now }
 {
-    if line.len() != 11 {
-        return Request::Malformed;
+    if line.len() != 11 || line[6] != b' ' {
+        return None;
     }
-    if line[6] != b' ' {
-        return Request::Malformed;
-    }
-    printing(
-        word(line[2], line[3], line[4], line[5]),
-        word(line[7], line[8], line[9], line[10]),
-    )
+    let w = word(line[2], line[3], line[4], line[5])?;
+    let v = word(line[7], line[8], line[9], line[10])?;
+    Some(Request::Print(w, v))
 }
 
-// A line of the input.
-fn request(line: &[u8]) -> Request
+// What a line of the input asks; none where it is malformed.
+#[tactic(auto, unfolding(crate::specs::Requests::request_of))]
+fn request(line: &[u8]) -> Option<Request>
     ensures { result ≡ request_of line.now }
 {
-    let n = line.len();
-    if 65536 < n {
-        return Request::Malformed;
+    if 65536 < line.len() {
+        return None;
     }
-    if n < 2 {
-        return Request::Malformed;
-    }
-    if line[1] != b' ' {
-        return Request::Malformed;
-    }
-    let letter = line[0];
-    match letter {
-        b'W' => words_asked(line),
-        b'L' => Request::Read,
-        _ => Request::Malformed,
+    match line {
+        [b'W', b' ', ..] => words_asked(line),
+        [b'L', b' ', ..] => Some(Request::Read),
+        _ => None,
     }
 }
 
-fn put_refused(number: u32, out: &mut [u8; 256]) -> usize
-    ensures { Text out.old (refused number) out.new result }
+#[tactic(auto, unfolding(crate::specs::Requests::refused, text::specs::Texts::bytes_of))]
+fn put_refused<const N: usize>(out: &mut ArrayVec<u8, N>, number: u32)
+    requires { array_vec_len out.old + 41 ≤ N }
+    ensures text { out.new.items ≡ out.old.items ++ refused number }
+    ensures short { array_vec_len out.new ≤ array_vec_len out.old + 41 }
 {
-    numbered_line(b"refused ", number, out)
+    put_numbered_line(out, b"refused ", number);
 }
 
 // The line of two words.
-fn print_answer(w: u16, v: u16, out: &mut [u8; 256]) -> usize
-    ensures { Text out.old (print_text (line_of w v)) out.new result }
+fn put_printed<const N: usize>(out: &mut ArrayVec<u8, N>, w: u16, v: u16)
+    requires { array_vec_len out.old + 41 ≤ N }
+    ensures text { out.new.items ≡ out.old.items ++ print_text (line_of w v) }
+    ensures short { array_vec_len out.new ≤ array_vec_len out.old + 41 }
 {
-    let printed = line::print(w, v, out);
-    match printed {
-        Printed::Length(n) => put(out, n, b'\n'),
-        Printed::Illegal => put_refused(14, out),
+    match line::line(w, v) {
+        Some(text) => {
+            put_bytes(out, text.as_slice());
+            out.push(b'\n');
+        }
+        None => put_refused(out, 14),
     }
-}
-
-fn put_one(w: u16, out: &mut [u8; 256]) -> usize
-    ensures { Text out.old (words_text (Words.One w)) out.new result }
-{
-    let at = put_hex(out, 0, w);
-    put(out, at, b'\n')
-}
-
-fn put_two(w: u16, v: u16, out: &mut [u8; 256]) -> usize
-    ensures { Text out.old (words_text (Words.Two w v)) out.new result }
-{
-    let at = put_hex(out, 0, w);
-    let at = put(out, at, b' ');
-    let at = put_hex(out, at, v);
-    put(out, at, b'\n')
 }
 
 // The words of a line.
-fn read_answer(line: &[u8], out: &mut [u8; 256]) -> usize
-    ensures { Text out.old (words_text (read_line line.now)) out.new result }
+#[tactic(auto, unfolding(crate::specs::Requests::words_text))]
+fn put_words<const N: usize>(out: &mut ArrayVec<u8, N>, line: &[u8])
+    requires { array_vec_len out.old + 41 ≤ N }
+    ensures text { out.new.items ≡ out.old.items ++ words_text (read_line line.now) }
+    ensures short { array_vec_len out.new ≤ array_vec_len out.old + 41 }
 {
-    let words = line::read(line);
-    match words {
-        Words::One(w) => put_one(w, out),
-        Words::Two(w, v) => put_two(w, v, out),
-        Words::UnknownMnemonic => put_refused(14, out),
-        Words::BadOperands => put_refused(15, out),
-        Words::OutsideField => put_refused(16, out),
+    match line::read(line) {
+        Ok(Words::One(w)) => {
+            put_hex(out, w);
+            out.push(b'\n');
+        }
+        Ok(Words::Two(w, v)) => {
+            put_hex(out, w);
+            out.push(b' ');
+            put_hex(out, v);
+            out.push(b'\n');
+        }
+        Err(LineError::UnknownMnemonic) => put_refused(out, 14),
+        Err(LineError::BadOperands) => put_refused(out, 15),
+        Err(LineError::OutsideField) => put_refused(out, 16),
     }
 }
 
-// The answer to a line of the input.
-pub(crate) fn answer(line: &[u8], number: u32, out: &mut [u8; 256]) -> usize
-    ensures { Text out.old (answer_to number line.now) out.new result }
+// The answer to a line of the input: at most 41 bytes.
+#[tactic(auto, unfolding(crate::specs::Requests::answer_to, crate::specs::Requests::answer_by, text::specs::Texts::bytes_of))]
+pub(crate) fn put_answer<const N: usize>(out: &mut ArrayVec<u8, N>, line: &[u8], number: u32)
+    requires { array_vec_len out.old + 41 ≤ N }
+    ensures text { out.new.items ≡ out.old.items ++ answer_to number line.now }
+    ensures short { array_vec_len out.new ≤ array_vec_len out.old + 41 }
 {
-    let asked = request(line);
-    match asked {
-        Request::Print(w, v) => print_answer(w, v, out),
-        Request::Read => read_answer(&line[2..], out),
-        Request::Malformed => numbered_line(b"malformed line ", number, out),
+    match request(line) {
+        Some(Request::Print(w, v)) => put_printed(out, w, v),
+        Some(Request::Read) => {
+            let asked = &line[2..];
+            put_words(out, asked);
+        }
+        None => put_numbered_line(out, b"malformed line ", number),
     }
 }

@@ -1,57 +1,67 @@
-// The input read byte by byte into a buffer of one line; what is to be written for a byte is put at the start of another.
-ghost use Rattle.std.specs.Prelude.{◌≡◌, ◌+◌, ◌<◌, [], ◌∷◌, ◌++◌, length};
-ghost use Rattle.std.proofs.Math.ListN as list;
-ghost use Rattle.line_request.specs.Session.{session_of, on_end, on_byte, on_last, Turned};
+// The input read byte by byte; what is to be written for a byte is put at the start of a buffer.
+ghost use Rattle.std.specs.Prelude.{◌≡◌};
+ghost use Rattle.line_request.specs.Session.{session_of, begun, on_end, on_byte, on_last, Turned};
 
-use crate::answer::answer;
-use crate::{Reading, Turn};
+use crate::answer::put_answer;
+use arrayvec::ArrayVec;
+use text::show;
 
-// The end of a line.
-fn end_line(r: Reading, line: &[u8], out: &mut [u8; 256]) -> Turn
-    ensures { Turned (on_end (session_of r line.now)) out.old result line.now out.new }
-{
-    let at = r.at;
-    let lines = std::num::wrapping_add_u32(r.lines, 1);
-    let reading = Reading { at: 0, lines };
-    if at < line.len() {
-        let end = answer(&line[..at], lines, out);
-        return Turn { reading, end };
-    }
-    let end = answer(line, lines, out);
-    Turn { reading, end }
+// Where the reading of the input stands: the present line, of which 65,537 bytes are kept, so that one of more than 65,536 is seen, and how many lines
+// were before it.
+#[derive(Drop)]
+pub struct Reading {
+    pub line: ArrayVec<u8, 65537>,
+    pub lines: u32,
 }
 
-// A byte kept behind those before it. Its caller has room for it.
-fn keep(line: &mut [u8], at: usize, byte: u8)
-    requires { at < length line.old }
-    ensures { list.take (at + 1) line.new ≡ list.take at line.old ++ (byte ∷ []) }
-{
-    line[at] = byte;
-}
+// `take` and `finish` stand in `test_case::input` once more: one generic pair needs a trait of three members for the six lines that both share.
+impl Reading {
+    // The start of the input.
+    #[tactic(auto, unfolding(crate::specs::Session::session_of, crate::specs::Session::begun))]
+    pub fn begin() -> Reading
+        ensures { session_of result ≡ begun }
+    {
+        Reading {
+            line: ArrayVec::new(),
+            lines: 0,
+        }
+    }
 
-// One byte. Of a line 65,537 bytes are kept, so that one of more than 65,536 is seen. What is behind the present line in its buffer is left free.
-pub fn take(r: Reading, byte: u8, line: &mut [u8; 65537], out: &mut [u8; 256]) -> Turn
-    ensures { Turned (on_byte (session_of r line.old) byte) out.old result line.new out.new }
-{
-    if byte == b'\n' {
-        return end_line(r, line, out);
+    // The end of a line. How long the text is that is to be written for it, as in the two functions that follow. The caller's array stays: `Turned` promises
+    // of `take` and `finish` that its other bytes stay too.
+    #[tactic(auto, unfolding(crate::specs::Session::session_of, crate::specs::Session::on_end, crate::specs::Session::number_of))]
+    fn end_line(&mut self, out: &mut [u8; 256]) -> usize
+        ensures { Turned (on_end (session_of self.old)) out.old self.new out.new result }
+    {
+        self.lines = self.lines.wrapping_add(1);
+        let mut text = ArrayVec::<u8, 256>::new();
+        put_answer(&mut text, self.line.as_slice(), self.lines);
+        self.line.clear();
+        show(&text, out)
     }
-    let at = r.at;
-    let lines = r.lines;
-    if at < 65537 {
-        keep(line, at, byte);
-        let reading = Reading { at: at + 1, lines };
-        return Turn { reading, end: 0 };
-    }
-    Turn { reading: r, end: 0 }
-}
 
-// The end of the input: a last line may be without its newline.
-pub fn finish(r: Reading, line: &[u8; 65537], out: &mut [u8; 256]) -> Turn
-    ensures { Turned (on_last (session_of r line.now)) out.old result line.now out.new }
-{
-    if r.at == 0 {
-        return Turn { reading: r, end: 0 };
+    // One byte.
+    #[tactic(auto, unfolding(crate::specs::Session::session_of, crate::specs::Session::on_byte, crate::specs::Session::with_byte))]
+    pub fn take(&mut self, byte: u8, out: &mut [u8; 256]) -> usize
+        ensures { Turned (on_byte (session_of self.old) byte) out.old self.new out.new result }
+    {
+        if byte == b'\n' {
+            return self.end_line(out);
+        }
+        if !self.line.is_full() {
+            self.line.push(byte);
+        }
+        0
     }
-    end_line(r, line, out)
+
+    // The end of the input: a last line may be without its newline.
+    #[tactic(auto, unfolding(crate::specs::Session::session_of, crate::specs::Session::on_last))]
+    pub fn finish(&mut self, out: &mut [u8; 256]) -> usize
+        ensures { Turned (on_last (session_of self.old)) out.old self.new out.new result }
+    {
+        if self.line.is_empty() {
+            return 0;
+        }
+        self.end_line(out)
+    }
 }

@@ -1,17 +1,18 @@
--- Names as numbers: a text of at most four bytes without blanks is the name of its number. Assumes nothing.
-use Prim.Native.Nat.{ℕ, zero, suc, ◌+◌, ◌*◌, ◌/◌, ◌%◌, ◌≤◌, ◌<◌}
-use mathlib.Core.Path.{◌≡◌, refl, ◌∙◌}
+-- Names filled up: a text of at most four bytes without blanks is the letters of it filled up. Assumes nothing.
+use Prim.Native.Nat.{ℕ, ◌+◌, ◌≤◌, ◌<◌}
+use mathlib.Core.Path.{◌≡◌, refl, sym, ◌∙◌}
 use mathlib.Core.Bool.{true, false, not, false≢true}
-use mathlib.Core.List.{List, [], ◌∷◌, ◌++◌}
+use mathlib.Core.List.{List, [], ◌∷◌, ◌++◌, append_assoc, append-nil}
 use native.Mathlib.Omega.{arith}
-use native.Mathlib.Nat.{le_of_suc-le-suc, not-suc-le-zero}
-use lib.Dec.{eqb, lit<}
-use lib.ListN.{length, get_or, length-append}
-use borrow.Author.Tests.{eq-eqb, eqb-true, not-true}
-use Rattle.choice.proofs.TestLaws.{split, both}
+use lib.Dec.{eqb}
+use lib.ListN.{length, get_or, drop, drop_of_length-le}
+use lib.Seq.{drop-cons}
+use native.Mathlib.Numerals.{add-one}
+use borrow.Author.Tests.{eq-eqb, ne_eqb, eqb-true, not-true}
+use Rattle.choice.proofs.TestLaws.{both}
 use Rattle.line_operand.specs.Numerals.{lacks}
 use Rattle.line_table.specs.Boxes.{same_text}
-use Rattle.line_table.specs.Entries.{letter, name_in, key_of}
+use Rattle.line_table.specs.Entries.{letter, letters, filled}
 
 pub same_true : (t u : List ℕ) → same_text t u ≡ true → t ≡ u
 unfolding same_text
@@ -27,76 +28,56 @@ unfolding same_text
 same_refl [] = refl
 same_refl (x ∷ t) = rw (eq-eqb x x refl) (same_refl t)
 
-letter-short : (b : ℕ) → length (letter b) ≤ 1
-unfolding letter
-letter-short b = split (eqb b 32) (λ e. rw e (omega arith)) (λ e. rw e (omega arith))
-
-pub name-short : (k : ℕ) → length (name_in k) ≤ 4
-unfolding name_in
-name-short k =
-    let a = letter-short (k / 16777216 % 256) in
-    let b = letter-short (k / 65536 % 256) in
-    let c = letter-short (k / 256 % 256) in
-    let d = letter-short (k % 256) in
-    simp length-append (omega arith)
-
--- a name is in the lower 32 bits
-pub name-low : (k : ℕ) → name_in (k % 4294967296) ≡ name_in k
-unfolding name_in
-name-low k =
-    let a : k % 4294967296 / 16777216 % 256 ≡ k / 16777216 % 256 = omega arith in
-    let b : k % 4294967296 / 65536 % 256 ≡ k / 65536 % 256 = omega arith in
-    let c : k % 4294967296 / 256 % 256 ≡ k / 256 % 256 = omega arith in
-    let d : k % 4294967296 % 256 ≡ k % 256 = omega arith in
-    rw (a, b, c, d) refl
-
--- the bytes of a name
-abbrev four : ℕ → ℕ → ℕ → ℕ → ℕ
-four a b c d = a * 16777216 + b * 65536 + c * 256 + d
-
-parts : (a b c d : ℕ) → a < 256 → b < 256 → c < 256 → d < 256
-    → name_in (four a b c d) ≡ letter a ++ (letter b ++ (letter c ++ letter d))
-unfolding name_in
-parts a b c d p q r s =
-    let i : four a b c d / 16777216 % 256 ≡ a = omega arith in
-    let j : four a b c d / 65536 ≡ 256 * a + b = omega arith in
-    let k : four a b c d / 256 ≡ 65536 * a + 256 * b + c = omega arith in
-    let l : (256 * a + b) % 256 ≡ b = omega arith in
-    let m : (65536 * a + 256 * b + c) % 256 ≡ c = omega arith in
-    let n : four a b c d % 256 ≡ d = omega arith in
-    rw (i, j, k, l, m, n) refl
-
 lacks-cons : (x : ℕ) (t : List ℕ) → lacks 32 (x ∷ t) ≡ true → (eqb x 32 ≡ false) × (lacks 32 t ≡ true)
 unfolding lacks
 lacks-cons x t h =
     let u = both (not (eqb x 32)) (lacks 32 t) h in
     (not-true (eqb x 32) u.0, u.1)
 
-pub renamed : (t : List ℕ) → ((i : ℕ) → get_or t i 0 < 256) → lacks 32 t ≡ true → length t ≤ 4 → name_in (key_of t) ≡ t
-unfolding key_of letter
-renamed [] b l h = parts 32 32 32 32 (lit< tt) (lit< tt) (lit< tt) (lit< tt)
-renamed (w ∷ []) b l h =
+pub renamed : (t : List ℕ) → lacks 32 t ≡ true → length t ≤ 4 → letters (filled t) ≡ t
+unfolding filled letter letters
+renamed [] l h = refl
+renamed (w ∷ []) l h =
     let p = lacks-cons w [] l in
-    parts w 32 32 32 (b 0) (lit< tt) (lit< tt) (lit< tt) ∙ rw p.0 refl
-renamed (w ∷ x ∷ []) b l h =
+    rw p.0 refl
+renamed (w ∷ x ∷ []) l h =
     let p = lacks-cons w (x ∷ []) l in
     let q = lacks-cons x [] p.1 in
-    parts w x 32 32 (b 0) (b 1) (lit< tt) (lit< tt) ∙ rw (p.0, q.0) refl
-renamed (w ∷ x ∷ y ∷ []) b l h =
+    rw (p.0, q.0) refl
+renamed (w ∷ x ∷ y ∷ []) l h =
     let p = lacks-cons w (x ∷ y ∷ []) l in
     let q = lacks-cons x (y ∷ []) p.1 in
     let r = lacks-cons y [] q.1 in
-    parts w x y 32 (b 0) (b 1) (b 2) (lit< tt) ∙ rw (p.0, q.0, r.0) refl
-renamed (w ∷ x ∷ y ∷ z ∷ []) b l h =
+    rw (p.0, q.0, r.0) refl
+renamed (w ∷ x ∷ y ∷ z ∷ []) l h =
     let p = lacks-cons w (x ∷ y ∷ z ∷ []) l in
     let q = lacks-cons x (y ∷ z ∷ []) p.1 in
     let r = lacks-cons y (z ∷ []) q.1 in
     let s = lacks-cons z [] r.1 in
-    parts w x y z (b 0) (b 1) (b 2) (b 3) ∙ rw (p.0, q.0, r.0, s.0) refl
-renamed (w ∷ x ∷ y ∷ z ∷ v ∷ t) b l h = let n : ⊥ = omega arith in absurd n
+    rw (p.0, q.0, r.0, s.0) refl
+renamed (w ∷ x ∷ y ∷ z ∷ v ∷ t) l h = let n : ⊥ = omega arith in absurd n
 
--- an element of a list is the same with any default
-pub get_d_any : (l : List ℕ) (i a b : ℕ) → i < length l → get_or l i a ≡ get_or l i b
-get_d_any [] i a b h = absurd (not-suc-le-zero h)
-get_d_any (x ∷ l) zero a b h = refl
-get_d_any (x ∷ l) (suc i) a b h = get_d_any l i a b (le_of_suc-le-suc h)
+-- a text put over four blanks
+pub filled-over : (t : List ℕ) → length t ≤ 4 → t ++ drop (length t) (32 ∷ 32 ∷ 32 ∷ 32 ∷ []) ≡ filled t
+unfolding filled
+filled-over [] h = refl
+filled-over (w ∷ []) h = refl
+filled-over (w ∷ x ∷ []) h = refl
+filled-over (w ∷ x ∷ y ∷ []) h = refl
+filled-over (w ∷ x ∷ y ∷ z ∷ []) h = refl
+filled-over (w ∷ x ∷ y ∷ z ∷ v ∷ t) h = let n : ⊥ = omega arith in absurd n
+
+-- ---- the letters of a name put behind the text a, one after the other
+
+module _ (n : List ℕ) (i : ℕ) (a t : List ℕ) (h : i < length n) (p : a ++ letters (drop i n) ≡ t) where
+  pub letter-put : (b : List ℕ) → (get_or n i 0 ≡ 32 → ⊥) → b ≡ a ++ get_or n i 0 ∷ [] → b ++ letters (drop (i + 1) n) ≡ t
+  unfolding letters letter
+  letter-put b x e = rw (e, append_assoc, add-one) (rw (drop-cons n i 0 h, ne_eqb (get_or n i 0) 32 x) at p)
+
+  pub letter-left : (b : List ℕ) → get_or n i 0 ≡ 32 → b ≡ a → b ++ letters (drop (i + 1) n) ≡ t
+  unfolding letters letter
+  letter-left b x e = rw (e, add-one) (rw (drop-cons n i 0 h, x) at p)
+
+pub letters-end : (n : List ℕ) (i : ℕ) (a t : List ℕ) → length n ≤ i → a ++ letters (drop i n) ≡ t → a ≡ t
+unfolding letters
+letters-end n i a t h p = sym (append-nil a) ∙ (rw (drop_of_length-le n {i = i} h) at p)

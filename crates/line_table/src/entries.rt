@@ -1,345 +1,1329 @@
-// The entries of section 5's boxes in rows of sixteen, as the opcodes stand: those of each first digit, of the extensions under 40 to 43, and of those under 4A; and that of
-// FFFF. An entry is a first word with its fields 0, the operands from the last to the first by their numbers, and the four bytes of the mnemonic, filled up with blanks; 0 is no box.
-pub const ROW_0: [u64; 16] = [
-    0x0000_093_4C422020, // LB BR,DSPL
-    0x0000_093_4C422020, // LB BR,DSPL
-    0x0000_093_4C422020, // LB BR,DSPL
-    0x0000_093_4C422020, // LB BR,DSPL
-    0x0400_093_444C4220, // DLB BR,DSPL
-    0x0400_093_444C4220, // DLB BR,DSPL
-    0x0400_093_444C4220, // DLB BR,DSPL
-    0x0400_093_444C4220, // DLB BR,DSPL
-    0x0800_093_53544220, // STB BR,DSPL
-    0x0800_093_53544220, // STB BR,DSPL
-    0x0800_093_53544220, // STB BR,DSPL
-    0x0800_093_53544220, // STB BR,DSPL
-    0x0C00_093_44535442, // DSTB BR,DSPL
-    0x0C00_093_44535442, // DSTB BR,DSPL
-    0x0C00_093_44535442, // DSTB BR,DSPL
-    0x0C00_093_44535442, // DSTB BR,DSPL
-];
+// The entries of section 5's boxes by the opcodes, then by the extensions under 40 to 43, then by those under 4A, and that of FFFF.
+use crate::Entry;
 
-pub const ROW_1: [u64; 16] = [
-    0x1000_093_41422020, // AB BR,DSPL
-    0x1000_093_41422020, // AB BR,DSPL
-    0x1000_093_41422020, // AB BR,DSPL
-    0x1000_093_41422020, // AB BR,DSPL
-    0x1400_093_53424220, // SBB BR,DSPL
-    0x1400_093_53424220, // SBB BR,DSPL
-    0x1400_093_53424220, // SBB BR,DSPL
-    0x1400_093_53424220, // SBB BR,DSPL
-    0x1800_093_4D422020, // MB BR,DSPL
-    0x1800_093_4D422020, // MB BR,DSPL
-    0x1800_093_4D422020, // MB BR,DSPL
-    0x1800_093_4D422020, // MB BR,DSPL
-    0x1C00_093_44422020, // DB BR,DSPL
-    0x1C00_093_44422020, // DB BR,DSPL
-    0x1C00_093_44422020, // DB BR,DSPL
-    0x1C00_093_44422020, // DB BR,DSPL
-];
+const NONE: u8 = 0;
 
-pub const ROW_2: [u64; 16] = [
-    0x2000_093_46414220, // FAB BR,DSPL
-    0x2000_093_46414220, // FAB BR,DSPL
-    0x2000_093_46414220, // FAB BR,DSPL
-    0x2000_093_46414220, // FAB BR,DSPL
-    0x2400_093_46534220, // FSB BR,DSPL
-    0x2400_093_46534220, // FSB BR,DSPL
-    0x2400_093_46534220, // FSB BR,DSPL
-    0x2400_093_46534220, // FSB BR,DSPL
-    0x2800_093_464D4220, // FMB BR,DSPL
-    0x2800_093_464D4220, // FMB BR,DSPL
-    0x2800_093_464D4220, // FMB BR,DSPL
-    0x2800_093_464D4220, // FMB BR,DSPL
-    0x2C00_093_46444220, // FDB BR,DSPL
-    0x2C00_093_46444220, // FDB BR,DSPL
-    0x2C00_093_46444220, // FDB BR,DSPL
-    0x2C00_093_46444220, // FDB BR,DSPL
-];
+const RA: u8 = 1;
 
-pub const ROW_3: [u64; 16] = [
-    0x3000_093_4F524220, // ORB BR,DSPL
-    0x3000_093_4F524220, // ORB BR,DSPL
-    0x3000_093_4F524220, // ORB BR,DSPL
-    0x3000_093_4F524220, // ORB BR,DSPL
-    0x3400_093_414E4442, // ANDB BR,DSPL
-    0x3400_093_414E4442, // ANDB BR,DSPL
-    0x3400_093_414E4442, // ANDB BR,DSPL
-    0x3400_093_414E4442, // ANDB BR,DSPL
-    0x3800_093_43422020, // CB BR,DSPL
-    0x3800_093_43422020, // CB BR,DSPL
-    0x3800_093_43422020, // CB BR,DSPL
-    0x3800_093_43422020, // CB BR,DSPL
-    0x3C00_093_46434220, // FCB BR,DSPL
-    0x3C00_093_46434220, // FCB BR,DSPL
-    0x3C00_093_46434220, // FCB BR,DSPL
-    0x3C00_093_46434220, // FCB BR,DSPL
-];
+const RB: u8 = 2;
 
-pub const ROW_4: [u64; 16] = [
-    0x4000_043_4C425820, // LBX BR,RX
-    0x4000_043_4C425820, // LBX BR,RX
-    0x4000_043_4C425820, // LBX BR,RX
-    0x4000_043_4C425820, // LBX BR,RX
-    0, // 4400
-    0, // 4500
-    0, // 4600
-    0, // 4700
-    0x4800_4B1_58494F20, // XIO RA,CMD,RX
-    0, // 4900
-    0, // 4A00
-    0, // 4B00
-    0, // 4C00
-    0, // 4D00
-    0, // 4E00
-    0, // 4F00
-];
+const BR: u8 = 3;
 
-pub const ROW_5: [u64; 16] = [
-    0x5000_4B5_53422020, // SB N,ADDR,RX
-    0x5100_025_53425220, // SBR N,RB
-    0x5200_4B5_53424920, // SBI N,ADDR,RX
-    0x5300_4B5_52422020, // RB N,ADDR,RX
-    0x5400_025_52425220, // RBR N,RB
-    0x5500_4B5_52424920, // RBI N,ADDR,RX
-    0x5600_4B5_54422020, // TB N,ADDR,RX
-    0x5700_025_54425220, // TBR N,RB
-    0x5800_4B5_54424920, // TBI N,ADDR,RX
-    0x5900_4B5_54534220, // TSB N,ADDR,RX
-    0x5A00_021_53564252, // SVBR RA,RB
-    0, // 5B00
-    0x5C00_021_52564252, // RVBR RA,RB
-    0, // 5D00
-    0x5E00_021_54564252, // TVBR RA,RB
-    0, // 5F00
-];
+const RX: u8 = 4;
 
-pub const ROW_6: [u64; 16] = [
-    0x6000_062_534C4C20, // SLL RB,N1
-    0x6100_062_53524C20, // SRL RB,N1
-    0x6200_062_53524120, // SRA RB,N1
-    0x6300_062_534C4320, // SLC RB,N1
-    0, // 6400
-    0x6500_062_44534C4C, // DSLL RB,N1
-    0x6600_062_4453524C, // DSRL RB,N1
-    0x6700_062_44535241, // DSRA RB,N1
-    0x6800_062_44534C43, // DSLC RB,N1
-    0, // 6900
-    0x6A00_021_534C5220, // SLR RA,RB
-    0x6B00_021_53415220, // SAR RA,RB
-    0x6C00_021_53435220, // SCR RA,RB
-    0x6D00_021_44534C52, // DSLR RA,RB
-    0x6E00_021_44534152, // DSAR RA,RB
-    0x6F00_021_44534352, // DSCR RA,RB
-];
+const N: u8 = 5;
 
-pub const ROW_7: [u64; 16] = [
-    0x7000_4B5_4A432020, // JC C,LABEL,RX
-    0x7100_4B5_4A434920, // JCI C,ADDR,RX
-    0x7200_4B1_4A532020, // JS RA,LABEL,RX
-    0x7300_4B1_534F4A20, // SOJ RA,LABEL,RX
-    0x7400_00A_42522020, // BR LABEL8
-    0x7500_00A_42455A20, // BEZ LABEL8
-    0x7600_00A_424C5420, // BLT LABEL8
-    0x7700_07C_42455820, // BEX Z8,N12
-    0x7800_00A_424C4520, // BLE LABEL8
-    0x7900_00A_42475420, // BGT LABEL8
-    0x7A00_00A_424E5A20, // BNZ LABEL8
-    0x7B00_00A_42474520, // BGE LABEL8
-    0x7C00_4BC_4C535449, // LSTI Z8,ADDR,RX
-    0x7D00_4BC_4C535420, // LST Z8,ADDR,RX
-    0x7E00_4B1_534A5320, // SJS RA,LABEL,RX
-    0x7F00_0D1_55525320, // URS RA,Z12
-];
+const N1: u8 = 6;
 
-pub const ROW_8: [u64; 16] = [
-    0x8000_4B1_4C202020, // L RA,ADDR,RX
-    0x8100_021_4C522020, // LR RA,RB
-    0x8200_081_4C495350, // LISP RA,NI
-    0x8300_081_4C49534E, // LISN RA,NI
-    0x8400_4B1_4C492020, // LI RA,ADDR,RX
-    0x8500_4B1_4C494D20, // LIM RA,DATA,RX
-    0x8600_4B1_444C2020, // DL RA,ADDR,RX
-    0x8700_021_444C5220, // DLR RA,RB
-    0x8800_4B1_444C4920, // DLI RA,ADDR,RX
-    0x8900_4B5_4C4D2020, // LM N,ADDR,RX
-    0x8A00_4B1_45464C20, // EFL RA,ADDR,RX
-    0x8B00_4B1_4C554220, // LUB RA,ADDR,RX
-    0x8C00_4B1_4C4C4220, // LLB RA,ADDR,RX
-    0x8D00_4B1_4C554249, // LUBI RA,ADDR,RX
-    0x8E00_4B1_4C4C4249, // LLBI RA,ADDR,RX
-    0x8F00_021_504F504D, // POPM RA,RB
-];
+const N12: u8 = 7;
 
-pub const ROW_9: [u64; 16] = [
-    0x9000_4B1_53542020, // ST RA,ADDR,RX
-    0x9100_4B5_53544320, // STC N,ADDR,RX
-    0x9200_4B5_53544349, // STCI N,ADDR,RX
-    0x9300_021_4D4F5620, // MOV RA,RB
-    0x9400_4B1_53544920, // STI RA,ADDR,RX
-    0, // 9500
-    0x9600_4B1_44535420, // DST RA,ADDR,RX
-    0x9700_4B1_53524D20, // SRM RA,ADDR,RX
-    0x9800_4B1_44535449, // DSTI RA,ADDR,RX
-    0x9900_4B5_53544D20, // STM N,ADDR,RX
-    0x9A00_4B1_45465354, // EFST RA,ADDR,RX
-    0x9B00_4B1_53545542, // STUB RA,ADDR,RX
-    0x9C00_4B1_53544C42, // STLB RA,ADDR,RX
-    0x9D00_4B1_53554249, // SUBI RA,ADDR,RX
-    0x9E00_4B1_534C4249, // SLBI RA,ADDR,RX
-    0x9F00_021_5053484D, // PSHM RA,RB
-];
+const NI: u8 = 8;
 
-pub const ROW_10: [u64; 16] = [
-    0xA000_4B1_41202020, // A RA,ADDR,RX
-    0xA100_021_41522020, // AR RA,RB
-    0xA200_081_41495350, // AISP RA,NI
-    0xA300_4B6_494E434D, // INCM N1,ADDR,RX
-    0xA400_021_41425320, // ABS RA,RB
-    0xA500_021_44414253, // DABS RA,RB
-    0xA600_4B1_44412020, // DA RA,ADDR,RX
-    0xA700_021_44415220, // DAR RA,RB
-    0xA800_4B1_46412020, // FA RA,ADDR,RX
-    0xA900_021_46415220, // FAR RA,RB
-    0xAA00_4B1_45464120, // EFA RA,ADDR,RX
-    0xAB00_021_45464152, // EFAR RA,RB
-    0xAC00_021_46414253, // FABS RA,RB
-    0, // AD00
-    0, // AE00
-    0, // AF00
-];
+const DSPL: u8 = 9;
 
-pub const ROW_11: [u64; 16] = [
-    0xB000_4B1_53202020, // S RA,ADDR,RX
-    0xB100_021_53522020, // SR RA,RB
-    0xB200_081_53495350, // SISP RA,NI
-    0xB300_4B6_4445434D, // DECM N1,ADDR,RX
-    0xB400_021_4E454720, // NEG RA,RB
-    0xB500_021_444E4547, // DNEG RA,RB
-    0xB600_4B1_44532020, // DS RA,ADDR,RX
-    0xB700_021_44535220, // DSR RA,RB
-    0xB800_4B1_46532020, // FS RA,ADDR,RX
-    0xB900_021_46535220, // FSR RA,RB
-    0xBA00_4B1_45465320, // EFS RA,ADDR,RX
-    0xBB00_021_45465352, // EFSR RA,RB
-    0xBC00_021_464E4547, // FNEG RA,RB
-    0, // BD00
-    0, // BE00
-    0, // BF00
-];
+const LABEL8: u8 = 10;
 
-pub const ROW_12: [u64; 16] = [
-    0xC000_4B1_4D532020, // MS RA,ADDR,RX
-    0xC100_021_4D535220, // MSR RA,RB
-    0xC200_081_4D495350, // MISP RA,NI
-    0xC300_081_4D49534E, // MISN RA,NI
-    0xC400_4B1_4D202020, // M RA,ADDR,RX
-    0xC500_021_4D522020, // MR RA,RB
-    0xC600_4B1_444D2020, // DM RA,ADDR,RX
-    0xC700_021_444D5220, // DMR RA,RB
-    0xC800_4B1_464D2020, // FM RA,ADDR,RX
-    0xC900_021_464D5220, // FMR RA,RB
-    0xCA00_4B1_45464D20, // EFM RA,ADDR,RX
-    0xCB00_021_45464D52, // EFMR RA,RB
-    0, // CC00
-    0, // CD00
-    0, // CE00
-    0, // CF00
-];
+const ADDR: u8 = 11;
 
-pub const ROW_13: [u64; 16] = [
-    0xD000_4B1_44562020, // DV RA,ADDR,RX
-    0xD100_021_44565220, // DVR RA,RB
-    0xD200_081_44495350, // DISP RA,NI
-    0xD300_081_4449534E, // DISN RA,NI
-    0xD400_4B1_44202020, // D RA,ADDR,RX
-    0xD500_021_44522020, // DR RA,RB
-    0xD600_4B1_44442020, // DD RA,ADDR,RX
-    0xD700_021_44445220, // DDR RA,RB
-    0xD800_4B1_46442020, // FD RA,ADDR,RX
-    0xD900_021_46445220, // FDR RA,RB
-    0xDA00_4B1_45464420, // EFD RA,ADDR,RX
-    0xDB00_021_45464452, // EFDR RA,RB
-    0, // DC00
-    0, // DD00
-    0, // DE00
-    0, // DF00
-];
+const Z8: u8 = 12;
 
-pub const ROW_14: [u64; 16] = [
-    0xE000_4B1_4F522020, // OR RA,ADDR,RX
-    0xE100_021_4F525220, // ORR RA,RB
-    0xE200_4B1_414E4420, // AND RA,ADDR,RX
-    0xE300_021_414E4452, // ANDR RA,RB
-    0xE400_4B1_584F5220, // XOR RA,ADDR,RX
-    0xE500_021_584F5252, // XORR RA,RB
-    0xE600_4B1_4E202020, // N RA,ADDR,RX
-    0xE700_021_4E522020, // NR RA,RB
-    0xE800_021_46495820, // FIX RA,RB
-    0xE900_021_464C5420, // FLT RA,RB
-    0xEA00_021_45464958, // EFIX RA,RB
-    0xEB00_021_45464C54, // EFLT RA,RB
-    0xEC00_0D1_58425220, // XBR RA,Z12
-    0xED00_021_58575220, // XWR RA,RB
-    0, // EE00
-    0, // EF00
-];
+const Z12: u8 = 13;
 
-pub const ROW_15: [u64; 16] = [
-    0xF000_4B1_43202020, // C RA,ADDR,RX
-    0xF100_021_43522020, // CR RA,RB
-    0xF200_081_43495350, // CISP RA,NI
-    0xF300_081_4349534E, // CISN RA,NI
-    0xF400_4B1_43424C20, // CBL RA,ADDR,RX
-    0, // F500
-    0xF600_4B1_44432020, // DC RA,ADDR,RX
-    0xF700_021_44435220, // DCR RA,RB
-    0xF800_4B1_46432020, // FC RA,ADDR,RX
-    0xF900_021_46435220, // FCR RA,RB
-    0xFA00_4B1_45464320, // EFC RA,ADDR,RX
-    0xFB00_021_45464352, // EFCR RA,RB
-    0, // FC00
-    0, // FD00
-    0, // FE00
-    0xFF00_000_4E4F5020, // NOP
+pub(crate) static ENTRIES: [Option<Entry>; 289] = [
+    // the opcodes 00 to 0F
+    Some(Entry {
+        base: 0x0000,
+        name: *b"LB  ",
+        operands: [BR, DSPL, NONE],
+    }),
+    Some(Entry {
+        base: 0x0000,
+        name: *b"LB  ",
+        operands: [BR, DSPL, NONE],
+    }),
+    Some(Entry {
+        base: 0x0000,
+        name: *b"LB  ",
+        operands: [BR, DSPL, NONE],
+    }),
+    Some(Entry {
+        base: 0x0000,
+        name: *b"LB  ",
+        operands: [BR, DSPL, NONE],
+    }),
+    Some(Entry {
+        base: 0x0400,
+        name: *b"DLB ",
+        operands: [BR, DSPL, NONE],
+    }),
+    Some(Entry {
+        base: 0x0400,
+        name: *b"DLB ",
+        operands: [BR, DSPL, NONE],
+    }),
+    Some(Entry {
+        base: 0x0400,
+        name: *b"DLB ",
+        operands: [BR, DSPL, NONE],
+    }),
+    Some(Entry {
+        base: 0x0400,
+        name: *b"DLB ",
+        operands: [BR, DSPL, NONE],
+    }),
+    Some(Entry {
+        base: 0x0800,
+        name: *b"STB ",
+        operands: [BR, DSPL, NONE],
+    }),
+    Some(Entry {
+        base: 0x0800,
+        name: *b"STB ",
+        operands: [BR, DSPL, NONE],
+    }),
+    Some(Entry {
+        base: 0x0800,
+        name: *b"STB ",
+        operands: [BR, DSPL, NONE],
+    }),
+    Some(Entry {
+        base: 0x0800,
+        name: *b"STB ",
+        operands: [BR, DSPL, NONE],
+    }),
+    Some(Entry {
+        base: 0x0C00,
+        name: *b"DSTB",
+        operands: [BR, DSPL, NONE],
+    }),
+    Some(Entry {
+        base: 0x0C00,
+        name: *b"DSTB",
+        operands: [BR, DSPL, NONE],
+    }),
+    Some(Entry {
+        base: 0x0C00,
+        name: *b"DSTB",
+        operands: [BR, DSPL, NONE],
+    }),
+    Some(Entry {
+        base: 0x0C00,
+        name: *b"DSTB",
+        operands: [BR, DSPL, NONE],
+    }),
+    // the opcodes 10 to 1F
+    Some(Entry {
+        base: 0x1000,
+        name: *b"AB  ",
+        operands: [BR, DSPL, NONE],
+    }),
+    Some(Entry {
+        base: 0x1000,
+        name: *b"AB  ",
+        operands: [BR, DSPL, NONE],
+    }),
+    Some(Entry {
+        base: 0x1000,
+        name: *b"AB  ",
+        operands: [BR, DSPL, NONE],
+    }),
+    Some(Entry {
+        base: 0x1000,
+        name: *b"AB  ",
+        operands: [BR, DSPL, NONE],
+    }),
+    Some(Entry {
+        base: 0x1400,
+        name: *b"SBB ",
+        operands: [BR, DSPL, NONE],
+    }),
+    Some(Entry {
+        base: 0x1400,
+        name: *b"SBB ",
+        operands: [BR, DSPL, NONE],
+    }),
+    Some(Entry {
+        base: 0x1400,
+        name: *b"SBB ",
+        operands: [BR, DSPL, NONE],
+    }),
+    Some(Entry {
+        base: 0x1400,
+        name: *b"SBB ",
+        operands: [BR, DSPL, NONE],
+    }),
+    Some(Entry {
+        base: 0x1800,
+        name: *b"MB  ",
+        operands: [BR, DSPL, NONE],
+    }),
+    Some(Entry {
+        base: 0x1800,
+        name: *b"MB  ",
+        operands: [BR, DSPL, NONE],
+    }),
+    Some(Entry {
+        base: 0x1800,
+        name: *b"MB  ",
+        operands: [BR, DSPL, NONE],
+    }),
+    Some(Entry {
+        base: 0x1800,
+        name: *b"MB  ",
+        operands: [BR, DSPL, NONE],
+    }),
+    Some(Entry {
+        base: 0x1C00,
+        name: *b"DB  ",
+        operands: [BR, DSPL, NONE],
+    }),
+    Some(Entry {
+        base: 0x1C00,
+        name: *b"DB  ",
+        operands: [BR, DSPL, NONE],
+    }),
+    Some(Entry {
+        base: 0x1C00,
+        name: *b"DB  ",
+        operands: [BR, DSPL, NONE],
+    }),
+    Some(Entry {
+        base: 0x1C00,
+        name: *b"DB  ",
+        operands: [BR, DSPL, NONE],
+    }),
+    // the opcodes 20 to 2F
+    Some(Entry {
+        base: 0x2000,
+        name: *b"FAB ",
+        operands: [BR, DSPL, NONE],
+    }),
+    Some(Entry {
+        base: 0x2000,
+        name: *b"FAB ",
+        operands: [BR, DSPL, NONE],
+    }),
+    Some(Entry {
+        base: 0x2000,
+        name: *b"FAB ",
+        operands: [BR, DSPL, NONE],
+    }),
+    Some(Entry {
+        base: 0x2000,
+        name: *b"FAB ",
+        operands: [BR, DSPL, NONE],
+    }),
+    Some(Entry {
+        base: 0x2400,
+        name: *b"FSB ",
+        operands: [BR, DSPL, NONE],
+    }),
+    Some(Entry {
+        base: 0x2400,
+        name: *b"FSB ",
+        operands: [BR, DSPL, NONE],
+    }),
+    Some(Entry {
+        base: 0x2400,
+        name: *b"FSB ",
+        operands: [BR, DSPL, NONE],
+    }),
+    Some(Entry {
+        base: 0x2400,
+        name: *b"FSB ",
+        operands: [BR, DSPL, NONE],
+    }),
+    Some(Entry {
+        base: 0x2800,
+        name: *b"FMB ",
+        operands: [BR, DSPL, NONE],
+    }),
+    Some(Entry {
+        base: 0x2800,
+        name: *b"FMB ",
+        operands: [BR, DSPL, NONE],
+    }),
+    Some(Entry {
+        base: 0x2800,
+        name: *b"FMB ",
+        operands: [BR, DSPL, NONE],
+    }),
+    Some(Entry {
+        base: 0x2800,
+        name: *b"FMB ",
+        operands: [BR, DSPL, NONE],
+    }),
+    Some(Entry {
+        base: 0x2C00,
+        name: *b"FDB ",
+        operands: [BR, DSPL, NONE],
+    }),
+    Some(Entry {
+        base: 0x2C00,
+        name: *b"FDB ",
+        operands: [BR, DSPL, NONE],
+    }),
+    Some(Entry {
+        base: 0x2C00,
+        name: *b"FDB ",
+        operands: [BR, DSPL, NONE],
+    }),
+    Some(Entry {
+        base: 0x2C00,
+        name: *b"FDB ",
+        operands: [BR, DSPL, NONE],
+    }),
+    // the opcodes 30 to 3F
+    Some(Entry {
+        base: 0x3000,
+        name: *b"ORB ",
+        operands: [BR, DSPL, NONE],
+    }),
+    Some(Entry {
+        base: 0x3000,
+        name: *b"ORB ",
+        operands: [BR, DSPL, NONE],
+    }),
+    Some(Entry {
+        base: 0x3000,
+        name: *b"ORB ",
+        operands: [BR, DSPL, NONE],
+    }),
+    Some(Entry {
+        base: 0x3000,
+        name: *b"ORB ",
+        operands: [BR, DSPL, NONE],
+    }),
+    Some(Entry {
+        base: 0x3400,
+        name: *b"ANDB",
+        operands: [BR, DSPL, NONE],
+    }),
+    Some(Entry {
+        base: 0x3400,
+        name: *b"ANDB",
+        operands: [BR, DSPL, NONE],
+    }),
+    Some(Entry {
+        base: 0x3400,
+        name: *b"ANDB",
+        operands: [BR, DSPL, NONE],
+    }),
+    Some(Entry {
+        base: 0x3400,
+        name: *b"ANDB",
+        operands: [BR, DSPL, NONE],
+    }),
+    Some(Entry {
+        base: 0x3800,
+        name: *b"CB  ",
+        operands: [BR, DSPL, NONE],
+    }),
+    Some(Entry {
+        base: 0x3800,
+        name: *b"CB  ",
+        operands: [BR, DSPL, NONE],
+    }),
+    Some(Entry {
+        base: 0x3800,
+        name: *b"CB  ",
+        operands: [BR, DSPL, NONE],
+    }),
+    Some(Entry {
+        base: 0x3800,
+        name: *b"CB  ",
+        operands: [BR, DSPL, NONE],
+    }),
+    Some(Entry {
+        base: 0x3C00,
+        name: *b"FCB ",
+        operands: [BR, DSPL, NONE],
+    }),
+    Some(Entry {
+        base: 0x3C00,
+        name: *b"FCB ",
+        operands: [BR, DSPL, NONE],
+    }),
+    Some(Entry {
+        base: 0x3C00,
+        name: *b"FCB ",
+        operands: [BR, DSPL, NONE],
+    }),
+    Some(Entry {
+        base: 0x3C00,
+        name: *b"FCB ",
+        operands: [BR, DSPL, NONE],
+    }),
+    // the opcodes 40 to 4F
+    Some(Entry {
+        base: 0x4000,
+        name: *b"LBX ",
+        operands: [BR, RX, NONE],
+    }),
+    Some(Entry {
+        base: 0x4000,
+        name: *b"LBX ",
+        operands: [BR, RX, NONE],
+    }),
+    Some(Entry {
+        base: 0x4000,
+        name: *b"LBX ",
+        operands: [BR, RX, NONE],
+    }),
+    Some(Entry {
+        base: 0x4000,
+        name: *b"LBX ",
+        operands: [BR, RX, NONE],
+    }),
+    None, // 4400
+    None, // 4500
+    None, // 4600
+    None, // 4700
+    Some(Entry {
+        base: 0x4800,
+        name: *b"XIO ",
+        operands: [RA, ADDR, RX],
+    }),
+    None, // 4900
+    None, // 4A00
+    None, // 4B00
+    None, // 4C00
+    None, // 4D00
+    None, // 4E00
+    None, // 4F00
+    // the opcodes 50 to 5F
+    Some(Entry {
+        base: 0x5000,
+        name: *b"SB  ",
+        operands: [N, ADDR, RX],
+    }),
+    Some(Entry {
+        base: 0x5100,
+        name: *b"SBR ",
+        operands: [N, RB, NONE],
+    }),
+    Some(Entry {
+        base: 0x5200,
+        name: *b"SBI ",
+        operands: [N, ADDR, RX],
+    }),
+    Some(Entry {
+        base: 0x5300,
+        name: *b"RB  ",
+        operands: [N, ADDR, RX],
+    }),
+    Some(Entry {
+        base: 0x5400,
+        name: *b"RBR ",
+        operands: [N, RB, NONE],
+    }),
+    Some(Entry {
+        base: 0x5500,
+        name: *b"RBI ",
+        operands: [N, ADDR, RX],
+    }),
+    Some(Entry {
+        base: 0x5600,
+        name: *b"TB  ",
+        operands: [N, ADDR, RX],
+    }),
+    Some(Entry {
+        base: 0x5700,
+        name: *b"TBR ",
+        operands: [N, RB, NONE],
+    }),
+    Some(Entry {
+        base: 0x5800,
+        name: *b"TBI ",
+        operands: [N, ADDR, RX],
+    }),
+    Some(Entry {
+        base: 0x5900,
+        name: *b"TSB ",
+        operands: [N, ADDR, RX],
+    }),
+    Some(Entry {
+        base: 0x5A00,
+        name: *b"SVBR",
+        operands: [RA, RB, NONE],
+    }),
+    None, // 5B00
+    Some(Entry {
+        base: 0x5C00,
+        name: *b"RVBR",
+        operands: [RA, RB, NONE],
+    }),
+    None, // 5D00
+    Some(Entry {
+        base: 0x5E00,
+        name: *b"TVBR",
+        operands: [RA, RB, NONE],
+    }),
+    None, // 5F00
+    // the opcodes 60 to 6F
+    Some(Entry {
+        base: 0x6000,
+        name: *b"SLL ",
+        operands: [RB, N1, NONE],
+    }),
+    Some(Entry {
+        base: 0x6100,
+        name: *b"SRL ",
+        operands: [RB, N1, NONE],
+    }),
+    Some(Entry {
+        base: 0x6200,
+        name: *b"SRA ",
+        operands: [RB, N1, NONE],
+    }),
+    Some(Entry {
+        base: 0x6300,
+        name: *b"SLC ",
+        operands: [RB, N1, NONE],
+    }),
+    None, // 6400
+    Some(Entry {
+        base: 0x6500,
+        name: *b"DSLL",
+        operands: [RB, N1, NONE],
+    }),
+    Some(Entry {
+        base: 0x6600,
+        name: *b"DSRL",
+        operands: [RB, N1, NONE],
+    }),
+    Some(Entry {
+        base: 0x6700,
+        name: *b"DSRA",
+        operands: [RB, N1, NONE],
+    }),
+    Some(Entry {
+        base: 0x6800,
+        name: *b"DSLC",
+        operands: [RB, N1, NONE],
+    }),
+    None, // 6900
+    Some(Entry {
+        base: 0x6A00,
+        name: *b"SLR ",
+        operands: [RA, RB, NONE],
+    }),
+    Some(Entry {
+        base: 0x6B00,
+        name: *b"SAR ",
+        operands: [RA, RB, NONE],
+    }),
+    Some(Entry {
+        base: 0x6C00,
+        name: *b"SCR ",
+        operands: [RA, RB, NONE],
+    }),
+    Some(Entry {
+        base: 0x6D00,
+        name: *b"DSLR",
+        operands: [RA, RB, NONE],
+    }),
+    Some(Entry {
+        base: 0x6E00,
+        name: *b"DSAR",
+        operands: [RA, RB, NONE],
+    }),
+    Some(Entry {
+        base: 0x6F00,
+        name: *b"DSCR",
+        operands: [RA, RB, NONE],
+    }),
+    // the opcodes 70 to 7F
+    Some(Entry {
+        base: 0x7000,
+        name: *b"JC  ",
+        operands: [N, ADDR, RX],
+    }),
+    Some(Entry {
+        base: 0x7100,
+        name: *b"JCI ",
+        operands: [N, ADDR, RX],
+    }),
+    Some(Entry {
+        base: 0x7200,
+        name: *b"JS  ",
+        operands: [RA, ADDR, RX],
+    }),
+    Some(Entry {
+        base: 0x7300,
+        name: *b"SOJ ",
+        operands: [RA, ADDR, RX],
+    }),
+    Some(Entry {
+        base: 0x7400,
+        name: *b"BR  ",
+        operands: [LABEL8, NONE, NONE],
+    }),
+    Some(Entry {
+        base: 0x7500,
+        name: *b"BEZ ",
+        operands: [LABEL8, NONE, NONE],
+    }),
+    Some(Entry {
+        base: 0x7600,
+        name: *b"BLT ",
+        operands: [LABEL8, NONE, NONE],
+    }),
+    Some(Entry {
+        base: 0x7700,
+        name: *b"BEX ",
+        operands: [Z8, N12, NONE],
+    }),
+    Some(Entry {
+        base: 0x7800,
+        name: *b"BLE ",
+        operands: [LABEL8, NONE, NONE],
+    }),
+    Some(Entry {
+        base: 0x7900,
+        name: *b"BGT ",
+        operands: [LABEL8, NONE, NONE],
+    }),
+    Some(Entry {
+        base: 0x7A00,
+        name: *b"BNZ ",
+        operands: [LABEL8, NONE, NONE],
+    }),
+    Some(Entry {
+        base: 0x7B00,
+        name: *b"BGE ",
+        operands: [LABEL8, NONE, NONE],
+    }),
+    Some(Entry {
+        base: 0x7C00,
+        name: *b"LSTI",
+        operands: [Z8, ADDR, RX],
+    }),
+    Some(Entry {
+        base: 0x7D00,
+        name: *b"LST ",
+        operands: [Z8, ADDR, RX],
+    }),
+    Some(Entry {
+        base: 0x7E00,
+        name: *b"SJS ",
+        operands: [RA, ADDR, RX],
+    }),
+    Some(Entry {
+        base: 0x7F00,
+        name: *b"URS ",
+        operands: [RA, Z12, NONE],
+    }),
+    // the opcodes 80 to 8F
+    Some(Entry {
+        base: 0x8000,
+        name: *b"L   ",
+        operands: [RA, ADDR, RX],
+    }),
+    Some(Entry {
+        base: 0x8100,
+        name: *b"LR  ",
+        operands: [RA, RB, NONE],
+    }),
+    Some(Entry {
+        base: 0x8200,
+        name: *b"LISP",
+        operands: [RA, NI, NONE],
+    }),
+    Some(Entry {
+        base: 0x8300,
+        name: *b"LISN",
+        operands: [RA, NI, NONE],
+    }),
+    Some(Entry {
+        base: 0x8400,
+        name: *b"LI  ",
+        operands: [RA, ADDR, RX],
+    }),
+    Some(Entry {
+        base: 0x8500,
+        name: *b"LIM ",
+        operands: [RA, ADDR, RX],
+    }),
+    Some(Entry {
+        base: 0x8600,
+        name: *b"DL  ",
+        operands: [RA, ADDR, RX],
+    }),
+    Some(Entry {
+        base: 0x8700,
+        name: *b"DLR ",
+        operands: [RA, RB, NONE],
+    }),
+    Some(Entry {
+        base: 0x8800,
+        name: *b"DLI ",
+        operands: [RA, ADDR, RX],
+    }),
+    Some(Entry {
+        base: 0x8900,
+        name: *b"LM  ",
+        operands: [N, ADDR, RX],
+    }),
+    Some(Entry {
+        base: 0x8A00,
+        name: *b"EFL ",
+        operands: [RA, ADDR, RX],
+    }),
+    Some(Entry {
+        base: 0x8B00,
+        name: *b"LUB ",
+        operands: [RA, ADDR, RX],
+    }),
+    Some(Entry {
+        base: 0x8C00,
+        name: *b"LLB ",
+        operands: [RA, ADDR, RX],
+    }),
+    Some(Entry {
+        base: 0x8D00,
+        name: *b"LUBI",
+        operands: [RA, ADDR, RX],
+    }),
+    Some(Entry {
+        base: 0x8E00,
+        name: *b"LLBI",
+        operands: [RA, ADDR, RX],
+    }),
+    Some(Entry {
+        base: 0x8F00,
+        name: *b"POPM",
+        operands: [RA, RB, NONE],
+    }),
+    // the opcodes 90 to 9F
+    Some(Entry {
+        base: 0x9000,
+        name: *b"ST  ",
+        operands: [RA, ADDR, RX],
+    }),
+    Some(Entry {
+        base: 0x9100,
+        name: *b"STC ",
+        operands: [N, ADDR, RX],
+    }),
+    Some(Entry {
+        base: 0x9200,
+        name: *b"STCI",
+        operands: [N, ADDR, RX],
+    }),
+    Some(Entry {
+        base: 0x9300,
+        name: *b"MOV ",
+        operands: [RA, RB, NONE],
+    }),
+    Some(Entry {
+        base: 0x9400,
+        name: *b"STI ",
+        operands: [RA, ADDR, RX],
+    }),
+    None, // 9500
+    Some(Entry {
+        base: 0x9600,
+        name: *b"DST ",
+        operands: [RA, ADDR, RX],
+    }),
+    Some(Entry {
+        base: 0x9700,
+        name: *b"SRM ",
+        operands: [RA, ADDR, RX],
+    }),
+    Some(Entry {
+        base: 0x9800,
+        name: *b"DSTI",
+        operands: [RA, ADDR, RX],
+    }),
+    Some(Entry {
+        base: 0x9900,
+        name: *b"STM ",
+        operands: [N, ADDR, RX],
+    }),
+    Some(Entry {
+        base: 0x9A00,
+        name: *b"EFST",
+        operands: [RA, ADDR, RX],
+    }),
+    Some(Entry {
+        base: 0x9B00,
+        name: *b"STUB",
+        operands: [RA, ADDR, RX],
+    }),
+    Some(Entry {
+        base: 0x9C00,
+        name: *b"STLB",
+        operands: [RA, ADDR, RX],
+    }),
+    Some(Entry {
+        base: 0x9D00,
+        name: *b"SUBI",
+        operands: [RA, ADDR, RX],
+    }),
+    Some(Entry {
+        base: 0x9E00,
+        name: *b"SLBI",
+        operands: [RA, ADDR, RX],
+    }),
+    Some(Entry {
+        base: 0x9F00,
+        name: *b"PSHM",
+        operands: [RA, RB, NONE],
+    }),
+    // the opcodes A0 to AF
+    Some(Entry {
+        base: 0xA000,
+        name: *b"A   ",
+        operands: [RA, ADDR, RX],
+    }),
+    Some(Entry {
+        base: 0xA100,
+        name: *b"AR  ",
+        operands: [RA, RB, NONE],
+    }),
+    Some(Entry {
+        base: 0xA200,
+        name: *b"AISP",
+        operands: [RA, NI, NONE],
+    }),
+    Some(Entry {
+        base: 0xA300,
+        name: *b"INCM",
+        operands: [N1, ADDR, RX],
+    }),
+    Some(Entry {
+        base: 0xA400,
+        name: *b"ABS ",
+        operands: [RA, RB, NONE],
+    }),
+    Some(Entry {
+        base: 0xA500,
+        name: *b"DABS",
+        operands: [RA, RB, NONE],
+    }),
+    Some(Entry {
+        base: 0xA600,
+        name: *b"DA  ",
+        operands: [RA, ADDR, RX],
+    }),
+    Some(Entry {
+        base: 0xA700,
+        name: *b"DAR ",
+        operands: [RA, RB, NONE],
+    }),
+    Some(Entry {
+        base: 0xA800,
+        name: *b"FA  ",
+        operands: [RA, ADDR, RX],
+    }),
+    Some(Entry {
+        base: 0xA900,
+        name: *b"FAR ",
+        operands: [RA, RB, NONE],
+    }),
+    Some(Entry {
+        base: 0xAA00,
+        name: *b"EFA ",
+        operands: [RA, ADDR, RX],
+    }),
+    Some(Entry {
+        base: 0xAB00,
+        name: *b"EFAR",
+        operands: [RA, RB, NONE],
+    }),
+    Some(Entry {
+        base: 0xAC00,
+        name: *b"FABS",
+        operands: [RA, RB, NONE],
+    }),
+    None, // AD00
+    None, // AE00
+    None, // AF00
+    // the opcodes B0 to BF
+    Some(Entry {
+        base: 0xB000,
+        name: *b"S   ",
+        operands: [RA, ADDR, RX],
+    }),
+    Some(Entry {
+        base: 0xB100,
+        name: *b"SR  ",
+        operands: [RA, RB, NONE],
+    }),
+    Some(Entry {
+        base: 0xB200,
+        name: *b"SISP",
+        operands: [RA, NI, NONE],
+    }),
+    Some(Entry {
+        base: 0xB300,
+        name: *b"DECM",
+        operands: [N1, ADDR, RX],
+    }),
+    Some(Entry {
+        base: 0xB400,
+        name: *b"NEG ",
+        operands: [RA, RB, NONE],
+    }),
+    Some(Entry {
+        base: 0xB500,
+        name: *b"DNEG",
+        operands: [RA, RB, NONE],
+    }),
+    Some(Entry {
+        base: 0xB600,
+        name: *b"DS  ",
+        operands: [RA, ADDR, RX],
+    }),
+    Some(Entry {
+        base: 0xB700,
+        name: *b"DSR ",
+        operands: [RA, RB, NONE],
+    }),
+    Some(Entry {
+        base: 0xB800,
+        name: *b"FS  ",
+        operands: [RA, ADDR, RX],
+    }),
+    Some(Entry {
+        base: 0xB900,
+        name: *b"FSR ",
+        operands: [RA, RB, NONE],
+    }),
+    Some(Entry {
+        base: 0xBA00,
+        name: *b"EFS ",
+        operands: [RA, ADDR, RX],
+    }),
+    Some(Entry {
+        base: 0xBB00,
+        name: *b"EFSR",
+        operands: [RA, RB, NONE],
+    }),
+    Some(Entry {
+        base: 0xBC00,
+        name: *b"FNEG",
+        operands: [RA, RB, NONE],
+    }),
+    None, // BD00
+    None, // BE00
+    None, // BF00
+    // the opcodes C0 to CF
+    Some(Entry {
+        base: 0xC000,
+        name: *b"MS  ",
+        operands: [RA, ADDR, RX],
+    }),
+    Some(Entry {
+        base: 0xC100,
+        name: *b"MSR ",
+        operands: [RA, RB, NONE],
+    }),
+    Some(Entry {
+        base: 0xC200,
+        name: *b"MISP",
+        operands: [RA, NI, NONE],
+    }),
+    Some(Entry {
+        base: 0xC300,
+        name: *b"MISN",
+        operands: [RA, NI, NONE],
+    }),
+    Some(Entry {
+        base: 0xC400,
+        name: *b"M   ",
+        operands: [RA, ADDR, RX],
+    }),
+    Some(Entry {
+        base: 0xC500,
+        name: *b"MR  ",
+        operands: [RA, RB, NONE],
+    }),
+    Some(Entry {
+        base: 0xC600,
+        name: *b"DM  ",
+        operands: [RA, ADDR, RX],
+    }),
+    Some(Entry {
+        base: 0xC700,
+        name: *b"DMR ",
+        operands: [RA, RB, NONE],
+    }),
+    Some(Entry {
+        base: 0xC800,
+        name: *b"FM  ",
+        operands: [RA, ADDR, RX],
+    }),
+    Some(Entry {
+        base: 0xC900,
+        name: *b"FMR ",
+        operands: [RA, RB, NONE],
+    }),
+    Some(Entry {
+        base: 0xCA00,
+        name: *b"EFM ",
+        operands: [RA, ADDR, RX],
+    }),
+    Some(Entry {
+        base: 0xCB00,
+        name: *b"EFMR",
+        operands: [RA, RB, NONE],
+    }),
+    None, // CC00
+    None, // CD00
+    None, // CE00
+    None, // CF00
+    // the opcodes D0 to DF
+    Some(Entry {
+        base: 0xD000,
+        name: *b"DV  ",
+        operands: [RA, ADDR, RX],
+    }),
+    Some(Entry {
+        base: 0xD100,
+        name: *b"DVR ",
+        operands: [RA, RB, NONE],
+    }),
+    Some(Entry {
+        base: 0xD200,
+        name: *b"DISP",
+        operands: [RA, NI, NONE],
+    }),
+    Some(Entry {
+        base: 0xD300,
+        name: *b"DISN",
+        operands: [RA, NI, NONE],
+    }),
+    Some(Entry {
+        base: 0xD400,
+        name: *b"D   ",
+        operands: [RA, ADDR, RX],
+    }),
+    Some(Entry {
+        base: 0xD500,
+        name: *b"DR  ",
+        operands: [RA, RB, NONE],
+    }),
+    Some(Entry {
+        base: 0xD600,
+        name: *b"DD  ",
+        operands: [RA, ADDR, RX],
+    }),
+    Some(Entry {
+        base: 0xD700,
+        name: *b"DDR ",
+        operands: [RA, RB, NONE],
+    }),
+    Some(Entry {
+        base: 0xD800,
+        name: *b"FD  ",
+        operands: [RA, ADDR, RX],
+    }),
+    Some(Entry {
+        base: 0xD900,
+        name: *b"FDR ",
+        operands: [RA, RB, NONE],
+    }),
+    Some(Entry {
+        base: 0xDA00,
+        name: *b"EFD ",
+        operands: [RA, ADDR, RX],
+    }),
+    Some(Entry {
+        base: 0xDB00,
+        name: *b"EFDR",
+        operands: [RA, RB, NONE],
+    }),
+    None, // DC00
+    None, // DD00
+    None, // DE00
+    None, // DF00
+    // the opcodes E0 to EF
+    Some(Entry {
+        base: 0xE000,
+        name: *b"OR  ",
+        operands: [RA, ADDR, RX],
+    }),
+    Some(Entry {
+        base: 0xE100,
+        name: *b"ORR ",
+        operands: [RA, RB, NONE],
+    }),
+    Some(Entry {
+        base: 0xE200,
+        name: *b"AND ",
+        operands: [RA, ADDR, RX],
+    }),
+    Some(Entry {
+        base: 0xE300,
+        name: *b"ANDR",
+        operands: [RA, RB, NONE],
+    }),
+    Some(Entry {
+        base: 0xE400,
+        name: *b"XOR ",
+        operands: [RA, ADDR, RX],
+    }),
+    Some(Entry {
+        base: 0xE500,
+        name: *b"XORR",
+        operands: [RA, RB, NONE],
+    }),
+    Some(Entry {
+        base: 0xE600,
+        name: *b"N   ",
+        operands: [RA, ADDR, RX],
+    }),
+    Some(Entry {
+        base: 0xE700,
+        name: *b"NR  ",
+        operands: [RA, RB, NONE],
+    }),
+    Some(Entry {
+        base: 0xE800,
+        name: *b"FIX ",
+        operands: [RA, RB, NONE],
+    }),
+    Some(Entry {
+        base: 0xE900,
+        name: *b"FLT ",
+        operands: [RA, RB, NONE],
+    }),
+    Some(Entry {
+        base: 0xEA00,
+        name: *b"EFIX",
+        operands: [RA, RB, NONE],
+    }),
+    Some(Entry {
+        base: 0xEB00,
+        name: *b"EFLT",
+        operands: [RA, RB, NONE],
+    }),
+    Some(Entry {
+        base: 0xEC00,
+        name: *b"XBR ",
+        operands: [RA, Z12, NONE],
+    }),
+    Some(Entry {
+        base: 0xED00,
+        name: *b"XWR ",
+        operands: [RA, RB, NONE],
+    }),
+    None, // EE00
+    None, // EF00
+    // the opcodes F0 to FF
+    Some(Entry {
+        base: 0xF000,
+        name: *b"C   ",
+        operands: [RA, ADDR, RX],
+    }),
+    Some(Entry {
+        base: 0xF100,
+        name: *b"CR  ",
+        operands: [RA, RB, NONE],
+    }),
+    Some(Entry {
+        base: 0xF200,
+        name: *b"CISP",
+        operands: [RA, NI, NONE],
+    }),
+    Some(Entry {
+        base: 0xF300,
+        name: *b"CISN",
+        operands: [RA, NI, NONE],
+    }),
+    Some(Entry {
+        base: 0xF400,
+        name: *b"CBL ",
+        operands: [RA, ADDR, RX],
+    }),
+    None, // F500
+    Some(Entry {
+        base: 0xF600,
+        name: *b"DC  ",
+        operands: [RA, ADDR, RX],
+    }),
+    Some(Entry {
+        base: 0xF700,
+        name: *b"DCR ",
+        operands: [RA, RB, NONE],
+    }),
+    Some(Entry {
+        base: 0xF800,
+        name: *b"FC  ",
+        operands: [RA, ADDR, RX],
+    }),
+    Some(Entry {
+        base: 0xF900,
+        name: *b"FCR ",
+        operands: [RA, RB, NONE],
+    }),
+    Some(Entry {
+        base: 0xFA00,
+        name: *b"EFC ",
+        operands: [RA, ADDR, RX],
+    }),
+    Some(Entry {
+        base: 0xFB00,
+        name: *b"EFCR",
+        operands: [RA, RB, NONE],
+    }),
+    None, // FC00
+    None, // FD00
+    None, // FE00
+    Some(Entry {
+        base: 0xFF00,
+        name: *b"NOP ",
+        operands: [NONE, NONE, NONE],
+    }),
+    // the extensions under 40 to 43
+    Some(Entry {
+        base: 0x4000,
+        name: *b"LBX ",
+        operands: [BR, RX, NONE],
+    }),
+    Some(Entry {
+        base: 0x4010,
+        name: *b"DLBX",
+        operands: [BR, RX, NONE],
+    }),
+    Some(Entry {
+        base: 0x4020,
+        name: *b"STBX",
+        operands: [BR, RX, NONE],
+    }),
+    Some(Entry {
+        base: 0x4030,
+        name: *b"DSTX",
+        operands: [BR, RX, NONE],
+    }),
+    Some(Entry {
+        base: 0x4040,
+        name: *b"ABX ",
+        operands: [BR, RX, NONE],
+    }),
+    Some(Entry {
+        base: 0x4050,
+        name: *b"SBBX",
+        operands: [BR, RX, NONE],
+    }),
+    Some(Entry {
+        base: 0x4060,
+        name: *b"MBX ",
+        operands: [BR, RX, NONE],
+    }),
+    Some(Entry {
+        base: 0x4070,
+        name: *b"DBX ",
+        operands: [BR, RX, NONE],
+    }),
+    Some(Entry {
+        base: 0x4080,
+        name: *b"FABX",
+        operands: [BR, RX, NONE],
+    }),
+    Some(Entry {
+        base: 0x4090,
+        name: *b"FSBX",
+        operands: [BR, RX, NONE],
+    }),
+    Some(Entry {
+        base: 0x40A0,
+        name: *b"FMBX",
+        operands: [BR, RX, NONE],
+    }),
+    Some(Entry {
+        base: 0x40B0,
+        name: *b"FDBX",
+        operands: [BR, RX, NONE],
+    }),
+    Some(Entry {
+        base: 0x40C0,
+        name: *b"CBX ",
+        operands: [BR, RX, NONE],
+    }),
+    Some(Entry {
+        base: 0x40D0,
+        name: *b"FCBX",
+        operands: [BR, RX, NONE],
+    }),
+    Some(Entry {
+        base: 0x40E0,
+        name: *b"ANDX",
+        operands: [BR, RX, NONE],
+    }),
+    Some(Entry {
+        base: 0x40F0,
+        name: *b"ORBX",
+        operands: [BR, RX, NONE],
+    }),
+    // the extensions under 4A
+    None, // 4A00
+    Some(Entry {
+        base: 0x4A01,
+        name: *b"AIM ",
+        operands: [RA, ADDR, NONE],
+    }),
+    Some(Entry {
+        base: 0x4A02,
+        name: *b"SIM ",
+        operands: [RA, ADDR, NONE],
+    }),
+    Some(Entry {
+        base: 0x4A03,
+        name: *b"MIM ",
+        operands: [RA, ADDR, NONE],
+    }),
+    Some(Entry {
+        base: 0x4A04,
+        name: *b"MSIM",
+        operands: [RA, ADDR, NONE],
+    }),
+    Some(Entry {
+        base: 0x4A05,
+        name: *b"DIM ",
+        operands: [RA, ADDR, NONE],
+    }),
+    Some(Entry {
+        base: 0x4A06,
+        name: *b"DVIM",
+        operands: [RA, ADDR, NONE],
+    }),
+    Some(Entry {
+        base: 0x4A07,
+        name: *b"ANDM",
+        operands: [RA, ADDR, NONE],
+    }),
+    Some(Entry {
+        base: 0x4A08,
+        name: *b"ORIM",
+        operands: [RA, ADDR, NONE],
+    }),
+    Some(Entry {
+        base: 0x4A09,
+        name: *b"XORM",
+        operands: [RA, ADDR, NONE],
+    }),
+    Some(Entry {
+        base: 0x4A0A,
+        name: *b"CIM ",
+        operands: [RA, ADDR, NONE],
+    }),
+    Some(Entry {
+        base: 0x4A0B,
+        name: *b"NIM ",
+        operands: [RA, ADDR, NONE],
+    }),
+    None, // 4A0C
+    None, // 4A0D
+    None, // 4A0E
+    None, // 4A0F
+    // FFFF
+    Some(Entry {
+        base: 0xFFFF,
+        name: *b"BPT ",
+        operands: [NONE, NONE, NONE],
+    }),
 ];
-
-pub const ROW_16: [u64; 16] = [
-    0x4000_043_4C425820, // LBX BR,RX
-    0x4010_043_444C4258, // DLBX BR,RX
-    0x4020_043_53544258, // STBX BR,RX
-    0x4030_043_44535458, // DSTX BR,RX
-    0x4040_043_41425820, // ABX BR,RX
-    0x4050_043_53424258, // SBBX BR,RX
-    0x4060_043_4D425820, // MBX BR,RX
-    0x4070_043_44425820, // DBX BR,RX
-    0x4080_043_46414258, // FABX BR,RX
-    0x4090_043_46534258, // FSBX BR,RX
-    0x40A0_043_464D4258, // FMBX BR,RX
-    0x40B0_043_46444258, // FDBX BR,RX
-    0x40C0_043_43425820, // CBX BR,RX
-    0x40D0_043_46434258, // FCBX BR,RX
-    0x40E0_043_414E4458, // ANDX BR,RX
-    0x40F0_043_4F524258, // ORBX BR,RX
-];
-
-pub const ROW_17: [u64; 16] = [
-    0, // 4A00
-    0x4A01_0B1_41494D20, // AIM RA,DATA
-    0x4A02_0B1_53494D20, // SIM RA,DATA
-    0x4A03_0B1_4D494D20, // MIM RA,DATA
-    0x4A04_0B1_4D53494D, // MSIM RA,DATA
-    0x4A05_0B1_44494D20, // DIM RA,DATA
-    0x4A06_0B1_4456494D, // DVIM RA,DATA
-    0x4A07_0B1_414E444D, // ANDM RA,DATA
-    0x4A08_0B1_4F52494D, // ORIM RA,DATA
-    0x4A09_0B1_584F524D, // XORM RA,DATA
-    0x4A0A_0B1_43494D20, // CIM RA,DATA
-    0x4A0B_0B1_4E494D20, // NIM RA,DATA
-    0, // 4A0C
-    0, // 4A0D
-    0, // 4A0E
-    0, // 4A0F
-];
-
-pub const BPT: u64 = 0xFFFF_000_42505420;

@@ -1,22 +1,22 @@
 -- The number of a duration is that of one of 257. Assumes nothing.
+use Rattle.std.proofs.Common.{Result, Ok, Err}
 use Prim.Native.Nat.{ℕ, ◌<◌}
+use Rattle.page.specs.declared.Refusal.{Refusal}
 use mathlib.Core.Path.{◌≡◌}
 use mathlib.Core.Bool.{Bool, true, false}
 use native.Mathlib.Omega.{arith}
 use lib.Dec.{ltb}
 use lib.ListN.{replicate, get_or-replicate}
-use Rattle.page.specs.declared.Got.{Got}
-use Rattle.page.specs.declared.Got.TheVariants.{Word, Missed}
 use Rattle.machine.specs.declared.Core.{Core}
 use Rattle.machine.specs.Machine.{Machine}
 use Rattle.machine.specs.Instructions.{View, view}
 use Rattle.machine.specs.Entries.{chosen}
 use Rattle.machine.specs.Step.{timed_by, timing, duration}
 
-timed-below : (v : Got) → timed_by v < 257
+timed-below : (v : Result ℕ Refusal) → timed_by v < 257
 unfolding timed_by
-timed-below (Word w) = omega arith
-timed-below (Missed b) = omega arith
+timed-below (Ok w) = omega arith
+timed-below (Err b) = omega arith
 
 pub timing-below : (c : Core) (v : View) (b : Bool) → timing c v b < 257
 unfolding timing

@@ -1,6 +1,8 @@
 -- What an instruction sees of two memories is the same where they agree in all that the key may fetch or read; and with a key other than 0
 -- nothing privileged is done. Nothing is asked of the instruction set. Assumes nothing.
+use Rattle.std.proofs.Common.{Result, Ok, Err}
 use Prim.Native.Nat.{ℕ}
+use Rattle.page.specs.declared.Refusal.{Refusal}
 use mathlib.Core.Path.{◌≡◌, refl}
 use mathlib.Core.Bool.{Bool, true, false}
 use mathlib.Core.List.{List}
@@ -9,17 +11,12 @@ use lib.Dec.{T, eqb→eq}
 use lib.ListN.{length}
 use Rattle.page.specs.declared.Access.{Access}
 use Rattle.page.specs.declared.Access.TheVariants.{Fetch, Read}
-use Rattle.page.specs.declared.Got.{Got}
-use Rattle.page.specs.declared.Got.TheVariants.{Word, Missed}
-use Rattle.page.specs.declared.Verdict.{Verdict}
-use Rattle.page.specs.declared.Verdict.TheVariants.{Clear, Fault}
 use Rattle.page.specs.declared.Span.{Span}
 use Rattle.page.specs.Pages.{lookup, MaySee}
+use Rattle.machine.specs.declared.Denial.{Denial}
 use Rattle.machine.specs.declared.State.{State}
 use Rattle.machine.specs.declared.Core.{Core}
 use Rattle.machine.specs.declared.Instruction.{Instruction}
-use Rattle.machine.specs.declared.Prepared.{Prepared}
-use Rattle.machine.specs.declared.Prepared.TheVariants.{Ready, Denied}
 use Rattle.machine.specs.declared.Class.{Class}
 use Rattle.machine.specs.declared.Class.TheVariants.{User, Supervisor, Executive}
 use Rattle.machine.specs.State.{Processor, processor, key_of, group_of}
@@ -70,25 +67,25 @@ Governed Q (affect e p) = Unit {0}
 Governed Q (govern r) = Q r
 
 -- an instruction that is ready is permitted
-abbrev Allowed : Isa → Processor → Prepared → Type 0
-Allowed isa p (Ready i) = T (permitted (isa.class (operation_of i.form)) (key_of p.core.sw))
-Allowed isa p (Denied b a) = Unit {0}
+abbrev Allowed : Isa → Processor → Result Instruction Denial → Type 0
+Allowed isa p (Ok i) = T (permitted (isa.class (operation_of i.form)) (key_of p.core.sw))
+Allowed isa p (Err d) = Unit {0}
 
 module _ (isa : Isa) (p : Processor) (v : View) (f w : ℕ) (t : T (permitted (isa.class (operation_of f)) (key_of p.core.sw))) where
-  redirected-allowed : (x : ℕ) (q : Got) → Allowed isa p (redirected p.core f w x q)
+  redirected-allowed : (x : ℕ) (q : Result ℕ Refusal) → Allowed isa p (redirected p.core f w x q)
   unfolding redirected ready_at
-  redirected-allowed x (Word a) = t
-  redirected-allowed x (Missed b) = tt
+  redirected-allowed x (Ok a) = t
+  redirected-allowed x (Err b) = tt
 
   derived-allowed : (x : ℕ) (b : Bool) → Allowed isa p (derived isa p v f w x b)
   unfolding derived ready_at
   derived-allowed x false = t
   derived-allowed x true = redirected-allowed x _
 
-  extended-allowed : (q : Got) → Allowed isa p (extended isa p v f w q)
+  extended-allowed : (q : Result ℕ Refusal) → Allowed isa p (extended isa p v f w q)
   unfolding extended
-  extended-allowed (Word x) = derived-allowed x _
-  extended-allowed (Missed b) = tt
+  extended-allowed (Ok x) = derived-allowed x _
+  extended-allowed (Err b) = tt
 
 module _ (isa : Isa) (p : Processor) (v : View) where
   granted-allowed : (f w : ℕ) (b l : Bool) → (T b → T (permitted (isa.class (operation_of f)) (key_of p.core.sw))) → Allowed isa p (granted isa p v f w b l)
@@ -102,10 +99,10 @@ module _ (isa : Isa) (p : Processor) (v : View) where
   decoded-allowed f w true = tt
   decoded-allowed f w false = granted-allowed f w _ _ (λ t. t)
 
-  fetched-allowed : (q : Got) → Allowed isa p (fetched isa p v q)
+  fetched-allowed : (q : Result ℕ Refusal) → Allowed isa p (fetched isa p v q)
   unfolding fetched
-  fetched-allowed (Word w) = decoded-allowed (isa.decode w) w _
-  fetched-allowed (Missed b) = tt
+  fetched-allowed (Ok w) = decoded-allowed (isa.decode w) w _
+  fetched-allowed (Err b) = tt
 
 module _ (isa : Isa) (s : State) (v : View) (g o : List ℕ) (Q : System → Type 0)
     (h : key_of s.core.sw ≡ 0 → (i : Instruction) (ws : List ℕ) → OnDone Q (isa.supervise s g o i ws)) where
@@ -120,15 +117,15 @@ module _ (isa : Isa) (s : State) (v : View) (g o : List ℕ) (Q : System → Typ
   operated-governed Supervisor t i ws = supervised-governed i _ (h (eqb→eq (key_of s.core.sw) 0 t) i ws)
   operated-governed Executive t i ws = tt
 
-  accessed-governed : (i : Instruction) → T (permitted (isa.class (operation_of i.form)) (key_of s.core.sw)) → (c : Verdict) → Governed Q (accessed isa s g o v i c)
+  accessed-governed : (i : Instruction) → T (permitted (isa.class (operation_of i.form)) (key_of s.core.sw)) → (c : Result (Unit {0}) Refusal) → Governed Q (accessed isa s g o v i c)
   unfolding accessed
-  accessed-governed i t (Fault b) = tt
-  accessed-governed i t Clear = operated-governed (isa.class (operation_of i.form)) t i _
+  accessed-governed i t (Err b) = tt
+  accessed-governed i t (Ok u) = operated-governed (isa.class (operation_of i.form)) t i _
 
-  carried-governed : (p : Prepared) → Allowed isa (processor s) p → Governed Q (carried isa s g o v p)
+  carried-governed : (p : Result Instruction Denial) → Allowed isa (processor s) p → Governed Q (carried isa s g o v p)
   unfolding carried
-  carried-governed (Denied b a) t = tt
-  carried-governed (Ready i) t = accessed-governed i t _
+  carried-governed (Err d) t = tt
+  carried-governed (Ok i) t = accessed-governed i t _
 
   pub instructed-governed : Governed Q (instructed isa s g o v)
   unfolding instructed prepared

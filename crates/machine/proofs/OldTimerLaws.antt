@@ -1,6 +1,8 @@
 -- "The program uses 100 for all 257, so an image that neither halts nor sets timer B prints what it did before" (change request 3): with 100 tenths a step, steps that leave
 -- timer B are those of the old rule. For any instruction set. Assumes nothing.
+use Rattle.std.proofs.Common.{Result, Ok, Err}
 use Prim.Native.Nat.{ℕ, zero, suc, ◌+◌, ◌*◌, ◌/◌, ◌%◌, ◌≤◌, ◌<◌}
+use Rattle.page.specs.declared.Refusal.{Refusal}
 use mathlib.Core.Path.{◌≡◌, refl, sym, ap, ap₂, subst, ◌∙◌}
 use mathlib.Core.Bool.{Bool, true, false, cond}
 use mathlib.Core.List.{List}
@@ -10,15 +12,12 @@ use native.Mathlib.Nat.{mod-eq_of_lt}
 use lib.Bits.{bit_or}
 use lib.Dec.{eqb, ltb}
 use borrow.Author.Tests.{eqb-true, eqb-false, ne_eqb, lt-leb, ltb-false}
-use Rattle.page.specs.declared.Verdict.{Verdict}
-use Rattle.page.specs.declared.Verdict.TheVariants.{Clear, Fault}
 use Rattle.page.specs.Spans.{wrapped}
 use Rattle.decode.specs.Forms.{operation_of}
+use Rattle.machine.specs.declared.Denial.{Denial}
 use Rattle.machine.specs.declared.State.{State}
 use Rattle.machine.specs.declared.Clock.{Clock}
 use Rattle.machine.specs.declared.Instruction.{Instruction}
-use Rattle.machine.specs.declared.Prepared.{Prepared}
-use Rattle.machine.specs.declared.Prepared.TheVariants.{Ready, Denied}
 use Rattle.machine.specs.declared.Class.{Class}
 use Rattle.machine.specs.declared.Class.TheVariants.{User, Supervisor, Executive}
 use Rattle.machine.specs.State.{with_pi, reset_state, processor}
@@ -202,19 +201,19 @@ module _ (isa : Isa) (s : State) (v : View) (g o : List ℕ) (n : Instruction)
   operated-left Supervisor e ws = supervised-left _ (h e ws)
   operated-left Executive e ws = tt
 
-  accessed-left : (c : Verdict) → Governed (Leaving s.clock) (accessed isa s g o v n c)
+  accessed-left : (c : Result (Unit {0}) Refusal) → Governed (Leaving s.clock) (accessed isa s g o v n c)
   unfolding accessed
-  accessed-left Clear = operated-left _ refl _
-  accessed-left (Fault b) = tt
+  accessed-left (Ok u) = operated-left _ refl _
+  accessed-left (Err b) = tt
 
 -- the privileged instructions that are ready leave timer B of the state s
-abbrev pub Harmless : Isa → State → List ℕ → List ℕ → Prepared → Type 0
-Harmless isa s g o p = (n : Instruction) → p ≡ Ready n → isa.class (operation_of n.form) ≡ Supervisor → (ws : List ℕ) → OnDone (Leaving s.clock) (isa.supervise s g o n ws)
+abbrev pub Harmless : Isa → State → List ℕ → List ℕ → Result Instruction Denial → Type 0
+Harmless isa s g o p = (n : Instruction) → p ≡ Ok n → isa.class (operation_of n.form) ≡ Supervisor → (ws : List ℕ) → OnDone (Leaving s.clock) (isa.supervise s g o n ws)
 
-carried-left : (isa : Isa) (s : State) (v : View) (g o : List ℕ) (p : Prepared) → Harmless isa s g o p → Governed (Leaving s.clock) (carried isa s g o v p)
+carried-left : (isa : Isa) (s : State) (v : View) (g o : List ℕ) (p : Result Instruction Denial) → Harmless isa s g o p → Governed (Leaving s.clock) (carried isa s g o v p)
 unfolding carried
-carried-left isa s v g o (Denied b a) h = tt
-carried-left isa s v g o (Ready n) h = accessed-left isa s v g o n (h n refl) _
+carried-left isa s v g o (Err d) h = tt
+carried-left isa s v g o (Ok n) h = accessed-left isa s v g o n (h n refl) _
 
 -- a step leaves timer B, where the instruction that it runs does once it is ready
 pub step_left : (isa : Isa) (x : Machine)

@@ -1,8 +1,11 @@
 -- Runs with the checks before them (Scope, "Questions at the door"), and lists of runs with their timelines (Scope, "Two machines compared"). Assumes nothing.
-use Rattle.std.specs.Prelude.{ℕ, ◌+◌, ◌%◌, Bool, true, false, cond, ◌&&◌, List, [], ◌∷◌, ◌++◌, eqb, leb, length, replicate}
+use Rattle.std.specs.Prelude.{ℕ, ◌+◌, ◌%◌, Bool, true, false, ◌&&◌, List, [], ◌∷◌, ◌++◌, Result, Ok, Err, ⊤, eqb, leb, length, replicate}
 use Rattle.std.proofs.Math.Option.{Option, none, some}
-use Rattle.machine.specs.declared.Answer.{Answer}
-use Rattle.machine.specs.declared.Answer.TheVariants.{Spent, BadMemory, BadPages, BadPorts, BadDurations, BadBudget, BadCounter}
+use Rattle.machine.specs.declared.State.{State}
+use Rattle.machine.specs.declared.SizeError.{SizeError}
+use Rattle.machine.specs.declared.SizeError.TheVariants.{BadMemory, BadPages, BadPorts}
+use Rattle.machine.specs.declared.RunError.{RunError}
+use Rattle.machine.specs.declared.RunError.TheVariants.{BadSize, BadDurations, BadBudget, BadCounter}
 use Rattle.machine.specs.Machine.{Machine, Isa}
 use Rattle.machine.specs.Timelines.{Item, stepped, play, entry_in}
 
@@ -17,35 +20,62 @@ run_of budget d = record { budget = budget; durations = d }
 
 -- ---- the checks before a run, in their order
 
--- the Scope's number of an answer; 0: the budget is spent
+-- the answer to a run: its budget is spent, or what the first question answered by "no" was about
+abbrev pub Answer : Type 0
+Answer = Result ⊤ RunError
+
+-- the Scope's number of a size, and of an answer; 0: the budget is spent
+unfoldable pub size_number : SizeError → ℕ
+size_number BadMemory = 1
+size_number BadPages = 2
+size_number BadPorts = 3
+
 unfoldable pub number_of : Answer → ℕ
-number_of Spent = 0
-number_of BadMemory = 1
-number_of BadPages = 2
-number_of BadPorts = 3
-number_of BadDurations = 17
-number_of BadBudget = 4
-number_of BadCounter = 5
+number_of (Ok u) = 0
+number_of (Err (BadSize e)) = size_number e
+number_of (Err BadDurations) = 17
+number_of (Err BadBudget) = 4
+number_of (Err BadCounter) = 5
 
 -- a multiple of 4,096 words, from 4,096 to 1,048,576
 unfoldable pub whole_pages : ℕ → Bool
 whole_pages n = eqb (n % 4096) 0 && (leb 4096 n && leb n 1048576)
 
--- a question: on to the rest, or out with the answer
-unfoldable pub asked : {A : Type 0} → Bool → A → A → A
+-- a question: on to the rest, or out with what it was about
+unfoldable pub asked : {E : Type 0} → Bool → E → Result ⊤ E → Result ⊤ E
 asked true out rest = rest
-asked false out rest = out
+asked false out rest = Err out
+
+-- several questions: on to the rest, or out with what the first answered by "no" was about
+unfoldable pub asked_all : {D E : Type 0} → (D → E) → Result ⊤ D → Result ⊤ E → Result ⊤ E
+asked_all out (Ok u) rest = rest
+asked_all out (Err e) rest = Err (out e)
+
+-- the questions that runs and loading share, about the sizes of memory, page registers and ports
+unfoldable pub sizes_answer : ℕ → ℕ → ℕ → Result ⊤ SizeError
+sizes_answer memory pages ports =
+    asked (whole_pages memory) BadMemory
+    (asked (eqb pages 512) BadPages
+    (asked (eqb ports 1024) BadPorts
+    (Ok tt)))
 
 -- the answer to a run, from the sizes of memory, page registers, ports and durations, the counter and the budget; "17 when the list is not 257 long, after number 3 in running"
 unfoldable pub admission : ℕ → ℕ → ℕ → ℕ → ℕ → ℕ → Answer
 admission memory pages ports durations count budget =
-    asked (whole_pages memory) BadMemory
-    (asked (eqb pages 512) BadPages
-    (asked (eqb ports 1024) BadPorts
+    asked_all BadSize (sizes_answer memory pages ports)
     (asked (eqb durations 257) BadDurations
     (asked (leb budget 1000000) BadBudget
     (asked (leb (count + budget) 4294967295) BadCounter
-    Spent)))))
+    (Ok tt))))
+
+-- what a call hands back, a state or why it is refused: its answer, and the state that its caller has then, which after a refusal is the given one
+abbrev pub answer_in : {E : Type 0} → Result State E → Result ⊤ E
+answer_in (Ok s) = Ok tt
+answer_in (Err e) = Err e
+
+abbrev pub state_in : {E : Type 0} → Result State E → State → State
+state_in (Ok s) given = s
+state_in (Err e) given = given
 
 -- ---- one run
 
@@ -55,7 +85,8 @@ answer_of x r = admission (length x.memory) (length x.pages) (length x.ports) (l
 
 -- "An accepted run makes exactly its budget of steps"; a refused one makes none
 unfoldable pub steps_of : Answer → ℕ → ℕ
-steps_of a budget = cond (eqb (number_of a) 0) budget 0
+steps_of (Ok u) budget = budget
+steps_of (Err e) budget = 0
 
 -- the number of steps that a run makes
 unfoldable pub made : Machine → Run → ℕ

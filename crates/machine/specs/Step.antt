@@ -1,8 +1,6 @@
 -- One step (Scope, "One step"), for any instruction set: what it does is found out first, as data; then it is done. Assumes nothing.
-use Rattle.std.specs.Prelude.{ℕ, ◌+◌, ◌/◌, ◌%◌, Bool, true, false, cond, ◌&&◌, List, ltb, leb, length, get_or}
+use Rattle.std.specs.Prelude.{ℕ, ◌+◌, ◌/◌, ◌%◌, Bool, true, false, cond, ◌&&◌, List, ltb, leb, length, get_or, Err, Ok, Result}
 use Rattle.std.specs.Int.Bits.{bit_or}
-use Rattle.page.specs.declared.Got.{Got}
-use Rattle.page.specs.declared.Got.TheVariants.{Word, Missed}
 use Rattle.page.specs.declared.Span.{Span}
 use Rattle.page.specs.declared.Refusal.{Refusal}
 use Rattle.page.specs.Spans.{wrapped, written}
@@ -109,9 +107,9 @@ tick d x = machine (ticked d x.state) x.memory x.pages x.ports
 -- ---- how long a step takes, by a list of 257 durations: "one per opcode and a last one for interrupt entry", which is number 256
 
 -- the number of its duration, by the first word: the high byte is the opcode, whatever comes of it. "A step that fetched no first word takes the entry's duration"
-unfoldable pub timed_by : Got → ℕ
-timed_by (Word w) = w / 256 % 256
-timed_by (Missed b) = 256
+unfoldable pub timed_by : Result ℕ Refusal → ℕ
+timed_by (Ok w) = w / 256 % 256
+timed_by (Err b) = 256
 
 -- by whether an interrupt is entered: then no word is fetched
 unfoldable pub timing : Core → View → Bool → ℕ

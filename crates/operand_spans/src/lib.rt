@@ -70,6 +70,7 @@ pub fn reads(regs: &[u16; 16], n: Instruction) -> Span
     requires { need_of (operation_of n.form) / 64 % 2 ≡ 1 }
     ensures { (result ≡ reads_of regs.now n) × (result.count ≤ 16) }
 {
+    // by the number of its paragraph, as `isa/Execute: executed` goes
     match n.form % 256 {
         40 => all_from(n),
         44 => popped_span(regs, n),
@@ -83,6 +84,7 @@ pub fn writes(regs: &[u16; 16], n: Instruction) -> Span
     requires { need_of (operation_of n.form) / 64 % 2 ≡ 1 }
     ensures { (result ≡ writes_of regs.now n) × (result.count ≤ 16) }
 {
+    // by the number of its paragraph, as `isa/Execute: executed` goes
     match n.form % 256 {
         47 => moved_span(regs, n, field_a(n.first)),
         50 => all_from(n),

@@ -1,50 +1,48 @@
 -- A span of at most three words, word by word. Assumes nothing.
-use Rattle.std.proofs.Common.{◌≡◌, ℕ, zero, suc, ◌+◌, ◌%◌, ◌≤◌, Bool, true, false, cond, ltb, List, length, set, sym, refl, ap, ◌∙◌, arith}
+use Rattle.std.proofs.Common.{◌≡◌, ℕ, zero, suc, ◌+◌, ◌%◌, ◌≤◌, Bool, true, false, cond, ltb, List, length, set, sym, refl, ap, ◌∙◌, arith, Err, Ok, Result}
+use Rattle.page.specs.declared.Refusal.{Refusal}
+use Rattle.std.specs.Result.{result_unwrap_or, is_ok}
 use mathlib.Core.Bool.{false≢true}
 use Rattle.page.specs.declared.Span.{Span}
 use Rattle.page.specs.declared.Access.TheVariants.{Read, Write}
-use Rattle.page.specs.declared.Place.{Place}
-use Rattle.page.specs.declared.Place.TheVariants.{At, Refused}
-use Rattle.page.specs.declared.Verdict.{Verdict}
-use Rattle.page.specs.declared.Verdict.TheVariants.{Clear, Fault}
 use Rattle.page.specs.Pages.{lookup}
 use Rattle.page.specs.Spans.{wrapped, got_at, word_of, put_at, and_then, sixteen_zeros, passed, checked_from, checked, read_from, words_of, written_from, written}
 use Rattle.page.proofs.SpanLaws.{passed-elim}
 use Rattle.page.proofs.EachLaws.{put-length}
 use Rattle.machine.specs.Machine.{span_from}
 use Rattle.isa.specs.Effects.{three}
-use Rattle.operand_words.specs.declared.Gathered.{Gathered}
-use Rattle.operand_words.specs.Gathers.{FirstThree, complete, denied, gathered, with_word, from_third, from_second, stored_one}
+use Rattle.operand_words.specs.declared.Words.{Words}
+use Rattle.operand_words.specs.Gathers.{FirstThree, complete, gathered, with_word, from_third, from_second, stored_one}
 
 -- ---- words read
 
 -- by their places, from one to three of them
 module _ (m : List ℕ) where
-  one : (q : Place) → with_word (got_at m q) (λ x. complete x 0 0) ≡ gathered (and_then q Clear) (set sixteen_zeros 0 (word_of (got_at m q)))
+  one : (q : Result ℕ Refusal) → with_word (got_at m q) (λ x. complete x 0 0) ≡ gathered (and_then q (Ok tt)) (set sixteen_zeros 0 (word_of (got_at m q)))
   unfolding gathered with_word and_then got_at word_of
-  one (At p) = refl
-  one (Refused b) = refl
+  one (Ok p) = refl
+  one (Err b) = refl
 
-  two : (q r : Place)
+  two : (q r : Result ℕ Refusal)
       → with_word (got_at m q) (λ x. with_word (got_at m r) (λ y. complete x y 0))
-      ≡ gathered (and_then q (and_then r Clear)) (set (set sixteen_zeros 0 (word_of (got_at m q))) 1 (word_of (got_at m r)))
+      ≡ gathered (and_then q (and_then r (Ok tt))) (set (set sixteen_zeros 0 (word_of (got_at m q))) 1 (word_of (got_at m r)))
   unfolding gathered with_word and_then got_at word_of
-  two (At p) (At a) = refl
-  two (At p) (Refused b) = refl
-  two (Refused b) r = refl
+  two (Ok p) (Ok a) = refl
+  two (Ok p) (Err b) = refl
+  two (Err b) r = refl
 
-  all_three : (q r s : Place)
+  all_three : (q r s : Result ℕ Refusal)
       → with_word (got_at m q) (λ x. with_word (got_at m r) (λ y. with_word (got_at m s) (λ z. complete x y z)))
-      ≡ gathered (and_then q (and_then r (and_then s Clear)))
+      ≡ gathered (and_then q (and_then r (and_then s (Ok tt))))
       (set (set (set sixteen_zeros 0 (word_of (got_at m q))) 1 (word_of (got_at m r))) 2 (word_of (got_at m s)))
   unfolding gathered with_word and_then got_at word_of
-  all_three (At p) (At a) (At c) = refl
-  all_three (At p) (At a) (Refused b) = refl
-  all_three (At p) (Refused b) s = refl
-  all_three (Refused b) r s = refl
+  all_three (Ok p) (Ok a) (Ok c) = refl
+  all_three (Ok p) (Ok a) (Err b) = refl
+  all_three (Ok p) (Err b) s = refl
+  all_three (Err b) r s = refl
 
 -- k words one by one, from the first on, at a
-unfoldable pub from_first : ℕ → ℕ → List ℕ → ℕ → List ℕ → ℕ → ℕ → Gathered
+unfoldable pub from_first : ℕ → ℕ → List ℕ → ℕ → List ℕ → ℕ → ℕ → Result Words Refusal
 from_first key group g size m k a =
     cond (ltb 0 k) (with_word (got_at m (lookup Read key group g size a)) (λ x. from_second key group g size m k x (wrapped (a + 1)))) (complete 0 0 0)
 
@@ -59,17 +57,36 @@ gathered-few key group g size m a (suc (suc (suc zero))) h =
     all_three m (lookup Read key group g size a) (lookup Read key group g size (wrapped (a + 1))) (lookup Read key group g size (wrapped (wrapped (a + 1) + 1)))
 gathered-few key group g size m a (suc (suc (suc (suc n)))) h = absurd (omega arith)
 
+-- ---- a result is one thing
+
+fault-of : {A E : Type 0} → Result A E → E → E
+fault-of (Ok x) b = b
+fault-of (Err e) b = e
+
+module _ {A E : Type 0} {r : Result A E} where
+  pub ok-same : {x y : A} → r ≡ Ok x → r ≡ Ok y → x ≡ y
+  ok-same {x} h k = sym (ap (λ q. result_unwrap_or q x) h) ∙ ap (λ q. result_unwrap_or q x) k
+
+  pub err-same : {b d : E} → r ≡ Err b → r ≡ Err d → b ≡ d
+  unfolding fault-of
+  err-same {b} h k = sym (ap (λ q. fault-of q b) h) ∙ ap (λ q. fault-of q b) k
+
+  pub ok-not_err : {x : A} {b : E} → r ≡ Ok x → r ≡ Err b → ⊥
+  ok-not_err h k = false≢true (sym (ap is_ok k) ∙ ap is_ok h)
+
 -- ---- what was gathered tells the check
 
-pub all-gathered : (w : Verdict) (ws : List ℕ) (v : Gathered) → v ≡ gathered w ws → v.clear ≡ true → (w ≡ Clear) × FirstThree ws v.x v.y v.z
-unfolding gathered complete denied
-all-gathered Clear ws v e h = (refl, record { first-is = ap (λ r. r.x) e; second_is = ap (λ r. r.y) e; third-is = ap (λ r. r.z) e })
-all-gathered (Fault b) ws v e h = absurd (false≢true (sym (ap (λ r. r.clear) e) ∙ h))
+pub all-gathered : (w : Result (Unit {0}) Refusal) (ws : List ℕ) (v : Words) → gathered w ws ≡ Ok v → (w ≡ Ok tt) × FirstThree ws v.x v.y v.z
+unfolding gathered
+all-gathered (Ok u) ws v e =
+    let s = ok-same e refl in
+    (refl, record { first-is = ap (λ r. r.x) s; second_is = ap (λ r. r.y) s; third-is = ap (λ r. r.z) s })
+all-gathered (Err b) ws v e = absurd (ok-not_err e refl)
 
-pub denied-gathered : (w : Verdict) (ws : List ℕ) (v : Gathered) → v ≡ gathered w ws → v.clear ≡ false → w ≡ Fault v.fault
-unfolding gathered complete denied
-denied-gathered Clear ws v e h = absurd (false≢true (sym h ∙ ap (λ r. r.clear) e))
-denied-gathered (Fault b) ws v e h = ap Fault (sym (ap (λ r. r.fault) e))
+pub denied-gathered : (w : Result (Unit {0}) Refusal) (ws : List ℕ) (b : Refusal) → gathered w ws ≡ Err b → w ≡ Err b
+unfolding gathered
+denied-gathered (Ok u) ws b e = absurd (ok-not_err refl e)
+denied-gathered (Err d) ws b e = ap Err (err-same refl e)
 
 -- ---- stores
 

@@ -1,5 +1,4 @@
-// The words of a user's operation on at most three words: those read, checked and gathered at once, and those stored. Callers have 512 page registers:
-// a run asks for them.
+// The words of a user's operation on at most three words: those read, checked and gathered at once, and those stored.
 #![tactic(auto)]
 
 ghost use Rattle.std.specs.Prelude.{◌≡◌, ◌<◌, ◌≤◌, length};
@@ -7,49 +6,19 @@ ghost use Rattle.page.specs.Spans.{checked, words_of, written};
 ghost use Rattle.machine.specs.State.{key_of, group_of};
 ghost use Rattle.machine.specs.Machine.{span_from};
 ghost use Rattle.isa.specs.Effects.{three};
-ghost use Rattle.operand_words.specs.Gathers.{complete, denied, gathered, from_third, from_second, stored_one};
+ghost use Rattle.operand_words.specs.Gathers.{gathered, from_third, from_second, stored_one};
 
-use page::{Access, Got, Refusal, Span};
+use page::{Access, Refusal, Span};
 use status_word::{group_of, key_of};
-use std::num::wrapping_add_u16;
 use storage::read::read_word;
 use storage::write::write_word;
 
-// The words read, 0 past their number, where all accesses are open; else the first refusal. The order was chosen by measurement
-// (docs/BENCHMARK.md, "Sizes").
+// The words read, 0 past their number.
 #[derive(Clone, Copy)]
-pub struct Gathered {
+pub struct Words {
     pub x: u16,
-    pub clear: bool,
     pub y: u16,
     pub z: u16,
-    pub fault: Refusal,
-}
-
-// All words are there.
-fn complete(x: u16, y: u16, z: u16) -> Gathered
-    ensures { result ≡ complete x y z }
-{
-    Gathered {
-        clear: true,
-        fault: Refusal { ft: 0, mfs: 0 },
-        x,
-        y,
-        z,
-    }
-}
-
-// A word is refused.
-fn denied(b: Refusal) -> Gathered
-    ensures { result ≡ denied b }
-{
-    Gathered {
-        clear: false,
-        fault: b,
-        x: 0,
-        y: 0,
-        z: 0,
-    }
 }
 
 // The third of k words, at the address c, after x and y.
@@ -57,23 +26,20 @@ fn gather_third(
     key: u16,
     group: u16,
     memory: &[u16],
-    pages: &[u16],
+    pages: &[u16; 512],
     c: u16,
     k: u16,
     x: u16,
     y: u16,
-) -> Gathered
-    requires { (length pages.now ≡ 512) × (group < 16) }
+) -> Result<Words, Refusal>
+    requires { group < 16 }
     ensures { result ≡ from_third key group pages.now (length memory.now) memory.now k x y c }
 {
     if k <= 2 {
-        return complete(x, y, 0);
+        return Ok(Words { x, y, z: 0 });
     }
-    let got = read_word(Access::Read, key, group, memory, pages, c);
-    match got {
-        Got::Word(z) => complete(x, y, z),
-        Got::Missed(b) => denied(b),
-    }
+    let z = read_word(Access::Read, key, group, memory, pages, c)?;
+    Ok(Words { x, y, z })
 }
 
 // The second of k words, at the address a, after x, and what follows.
@@ -81,44 +47,39 @@ fn gather_second(
     key: u16,
     group: u16,
     memory: &[u16],
-    pages: &[u16],
+    pages: &[u16; 512],
     a: u16,
     k: u16,
     x: u16,
-) -> Gathered
-    requires { (length pages.now ≡ 512) × (group < 16) }
+) -> Result<Words, Refusal>
+    requires { group < 16 }
     ensures { result ≡ from_second key group pages.now (length memory.now) memory.now k x a }
 {
     if k <= 1 {
-        return complete(x, 0, 0);
+        return Ok(Words { x, y: 0, z: 0 });
     }
-    let got = read_word(Access::Read, key, group, memory, pages, a);
-    match got {
-        Got::Word(y) => {
-            let c = wrapping_add_u16(a, 1);
-            gather_third(key, group, memory, pages, c, k, x, y)
-        }
-        Got::Missed(b) => denied(b),
-    }
+    let y = read_word(Access::Read, key, group, memory, pages, a)?;
+    gather_third(key, group, memory, pages, a.wrapping_add(1), k, x, y)
 }
 
-// At most three words from the address a on: checked and read at once.
-pub fn gather(key: u16, group: u16, memory: &[u16], pages: &[u16], a: u16, k: u16) -> Gathered
-    requires { (length pages.now ≡ 512) × (group < 16) × (k ≤ 3) }
+// At most three words from the address a on: checked and read at once. The first refusal ends it.
+pub fn gather(
+    key: u16,
+    group: u16,
+    memory: &[u16],
+    pages: &[u16; 512],
+    a: u16,
+    k: u16,
+) -> Result<Words, Refusal>
+    requires { (group < 16) × (k ≤ 3) }
     ensures { result ≡ gathered (checked key group pages.now (length memory.now) (span_from a k) Access.Read)
         (words_of key group pages.now (length memory.now) (span_from a k) memory.now) }
 {
     if k == 0 {
-        return complete(0, 0, 0);
+        return Ok(Words { x: 0, y: 0, z: 0 });
     }
-    let got = read_word(Access::Read, key, group, memory, pages, a);
-    match got {
-        Got::Word(x) => {
-            let second = wrapping_add_u16(a, 1);
-            gather_second(key, group, memory, pages, second, k, x)
-        }
-        Got::Missed(b) => denied(b),
-    }
+    let x = read_word(Access::Read, key, group, memory, pages, a)?;
+    gather_second(key, group, memory, pages, a.wrapping_add(1), k, x)
 }
 
 // v is stored as word number j of a span, whose address is a, where there is one.
@@ -126,13 +87,13 @@ fn store_at(
     key: u16,
     group: u16,
     memory: &mut [u16],
-    pages: &[u16],
+    pages: &[u16; 512],
     span: Span,
     j: u16,
     a: u16,
     v: u16,
 )
-    requires { (length pages.now ≡ 512) × (group < 16) }
+    requires { group < 16 }
     ensures { memory.new ≡ stored_one key group pages.now (length memory.old) span j a v memory.old }
 {
     if span.count <= j {
@@ -145,14 +106,22 @@ fn store_at(
 }
 
 // Up to three words are stored in a span of at most three, by the key and the address state of SW.
-pub fn store_words(sw: u16, memory: &mut [u16], pages: &[u16], span: Span, x: u16, y: u16, z: u16)
-    requires { (length pages.now ≡ 512) × (span.count ≤ 3) }
+pub fn store_words(
+    sw: u16,
+    memory: &mut [u16],
+    pages: &[u16; 512],
+    span: Span,
+    x: u16,
+    y: u16,
+    z: u16,
+)
+    requires { span.count ≤ 3 }
     ensures { memory.new ≡ written (key_of sw) (group_of sw) pages.now (length memory.old) span (three x y z) memory.old }
 {
     let key = key_of(sw);
     let group = group_of(sw);
-    let b = wrapping_add_u16(span.start, span.stride);
-    let c = wrapping_add_u16(b, span.stride);
+    let b = span.start.wrapping_add(span.stride);
+    let c = b.wrapping_add(span.stride);
     store_at(key, group, memory, pages, span, 0, span.start, x);
     store_at(key, group, memory, pages, span, 1, b, y);
     store_at(key, group, memory, pages, span, 2, c, z);

@@ -1,44 +1,18 @@
--- The packed state: a list copied into another, the unpacked state part by part, and packing there and back. Assumes nothing.
-use Prim.Native.Nat.{ℕ, zero, suc, ◌+◌, ◌*◌, ◌/◌, ◌%◌, ◌<◌, ◌≤◌}
+-- The packed state: the unpacked state part by part, and packing there and back. Assumes nothing.
+use Prim.Native.Nat.{ℕ, zero, suc, ◌+◌, ◌*◌, ◌/◌, ◌%◌, ◌<◌}
 use mathlib.Core.Bool.{Bool, true, false, cond}
 use mathlib.Core.Path.{◌≡◌, refl, sym, ap, ◌∙◌}
-use mathlib.Core.List.{List, [], ◌∷◌, ◌++◌, append-nil}
+use mathlib.Core.List.{List, [], ◌∷◌, ◌++◌}
 use native.Mathlib.Omega.{arith}
-use native.Mathlib.Nat.{add_comm, zero-add, mul_comm, mul-one, mul-zero, div-one, mod-lt}
-use native.Mathlib.Numerals.{add-one}
+use native.Mathlib.Nat.{add_comm, mul_comm, mul-one, mul-zero, div-one, mod-lt}
 use lib.Arith.{mod-mul}
 use lib.Dec.{eqb}
-use lib.ListN.{length, get_or, set, take, replicate, length-set}
-use lib.Seq.{paste, paste-zero, paste-suc, length-take-le, take_all, take-length, drop-length, take_at, get_or-append-add}
+use lib.ListN.{length, get_or, take, replicate}
+use lib.Seq.{length-take-le, take_all, take_at, get_or-append-add}
 use Rattle.packed.specs.Packed.{size, marks, marked, mark_at, marks_of, with_marks, layout, unpacked, packed}
 use Rattle.machine.specs.declared.State.{State}
 use Rattle.machine.specs.State.{with_ic, with_sw, with_mk, with_pi, with_faults, with_ft, with_mfs, with_enabled, with_hold, with_ta, with_tb, with_rem_a, with_rem_b, with_ta_on, with_tb_on, with_count}
 use Rattle.bits.specs.Bits.{weight}
-
--- ---- the list s copied into d from word `at` on, after i words
-
-pub record Copied (d : List ℕ) (at : ℕ) (s to : List ℕ) (i : ℕ) : Type 0 where
-  pub within : i ≤ length s
-  pub same : length to ≡ length d
-  pub is : to ≡ paste d at s i
-
-pub copied_none : (d : List ℕ) (at : ℕ) (s : List ℕ) → Copied d at s d 0
-copied_none d at s = record { within = omega arith; same = refl; is = paste-zero d at s }
-
-module _ {d : List ℕ} {at : ℕ} {s to : List ℕ} {i : ℕ} (copied : Copied d at s to i) where
-  pub copied_more : at + length s ≤ length d → i < length s → Copied d at s (set to (at + i) (get_or s i 0)) (i + 1)
-  copied_more h below = record {
-    within = omega arith;
-    same = simp length-set copied.same;
-    is = rw (copied.is, add-one) (paste-suc d at s i 0 (omega arith) (omega arith));
-  }
-
-  pub copied_all : length s ≤ i → to ≡ paste d at s (length s)
-  copied_all past = let e : i ≡ length s = omega (arith, copied.within) in rw (← e) copied.is
-
--- all words of d
-pub copied-whole : (d s : List ℕ) → length d ≡ length s → paste d 0 s (length s) ≡ s
-copied-whole d s e = rw (take-length, zero-add, ← e, drop-length, append-nil) refl
 
 -- ---- the state of the words w, part by part
 

@@ -2,8 +2,7 @@
 // 0 to 15 are R0 to R15; a word that no part has is not looked at, and 0 in a packed state.
 #![tactic(auto)]
 
-ghost use Rattle.std.specs.Prelude.{◌≡◌, ◌+◌, ◌/◌, ◌%◌, ◌<◌, ◌≤◌, cond, eqb, length};
-ghost use Rattle.std.proofs.Math.Seq.{paste};
+ghost use Rattle.std.specs.Prelude.{◌≡◌, ◌/◌, ◌%◌, ◌<◌, ◌≤◌, cond, eqb, length};
 ghost use Rattle.packed.specs.Packed.{size, marks_of, unpacked, packed};
 
 use machine::{Clock, Core, Faults, State};
@@ -43,25 +42,6 @@ const A_RUNS: u16 = 4;
 
 const B_RUNS: u16 = 8;
 
-// A list written into another from word `at` on. Callers have as many words there.
-fn copy(to: &mut [u16], at: usize, from: &[u16])
-    requires { at + length from.now ≤ length to.old }
-    ensures { to.new ≡ paste to.old at from.now (length from.now) }
-{
-    let mut i: usize = 0;
-    while i < from.len() {
-        to[at + i] = from[i];
-        i += 1;
-    }
-}
-
-// A word as a number of 32 bits.
-fn wide(word: u16) -> u32
-    ensures { (result ≡ word) × (result < 65536) }
-{
-    word as u32
-}
-
 // Whether the bit of a weight, which no caller gives as 0, is one in a word.
 fn marked(word: u16, weight: u16) -> bool
     requires { 0 < weight }
@@ -93,7 +73,7 @@ pub fn unpack(words: &[u16]) -> State
     ensures { result ≡ unpacked words.now }
 {
     let mut regs = [0u16; 16];
-    copy(&mut regs, 0, &words[..16]);
+    regs.copy_from_slice(&words[..16]);
     let on = words[MARKS];
     let faults = Faults {
         ft: words[FT],
@@ -115,7 +95,7 @@ pub fn unpack(words: &[u16]) -> State
         remb: words[REMAINDER_B],
         taon: marked(on, A_RUNS),
         tbon: marked(on, B_RUNS),
-        count: 65536 * wide(words[COUNTER]) + wide(words[COUNTER + 1]),
+        count: 65536 * u32::from(words[COUNTER]) + u32::from(words[COUNTER + 1]),
     };
     State { regs, core, clock }
 }
@@ -139,7 +119,6 @@ pub fn pack(s: State, words: &mut [u16])
     all[MFS] = s.core.faults.mfs;
     all[COUNTER] = (s.clock.count / 65536) as u16;
     all[COUNTER + 1] = (s.clock.count % 65536) as u16;
-    let regs = s.regs;
-    copy(&mut all, 0, &regs);
-    copy(words, 0, &all);
+    all[..16].copy_from_slice(&s.regs);
+    words.copy_from_slice(&all);
 }

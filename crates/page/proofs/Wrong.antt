@@ -1,12 +1,8 @@
 -- Two wrong answers of each contract that other crates call, each beside the right one, which the checker computes. Assumes nothing.
-use Rattle.std.proofs.Common.{ℕ, T, List, [], ◌∷◌, set, replicate}
+use Rattle.std.proofs.Common.{ℕ, T, List, [], ◌∷◌, set, replicate, Err, Ok, Result}
 use Rattle.choice.proofs.Rows.{Row, some, hold}
 use Rattle.page.specs.declared.Access.TheVariants.{Fetch, Read, Write}
 use Rattle.page.specs.declared.Refusal.{Refusal}
-use Rattle.page.specs.declared.Place.{Place}
-use Rattle.page.specs.declared.Place.TheVariants.{At, Refused}
-use Rattle.page.specs.declared.Verdict.{Verdict}
-use Rattle.page.specs.declared.Verdict.TheVariants.{Clear, Fault}
 use Rattle.page.specs.declared.Span.{Span}
 use Rattle.page.specs.Pages.{lock_of, protect_of, frame_of, set_of, register_at, ioi_of, mfs_at, refusal, admits, barred, physical, placed, through, present, lookup}
 use Rattle.page.specs.Spans.{wrapped, and_then, passed, checked_from, checked}
@@ -16,14 +12,14 @@ abbrev both : Refusal → List ℕ
 both b = b.ft ∷ b.mfs ∷ []
 
 -- a place: the physical address, or the refusal
-abbrev parts : Place → List ℕ
-parts (At p) = p ∷ []
-parts (Refused b) = both b
+abbrev parts : Result ℕ Refusal → List ℕ
+parts (Ok p) = p ∷ []
+parts (Err b) = both b
 
 -- a verdict: nothing where it is clear, or the refusal
-abbrev fault_of : Verdict → List ℕ
-fault_of Clear = []
-fault_of (Fault b) = both b
+abbrev fault_of : Result (Unit {0}) Refusal → List ℕ
+fault_of (Ok u) = []
+fault_of (Err b) = both b
 
 -- frames 7, 9 and 5 for page 2: of group 3 in the operand set and in the instruction set, of group 0 in the operand set; W for page 1 of group 0
 abbrev pages : List ℕ

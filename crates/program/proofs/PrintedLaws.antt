@@ -6,10 +6,11 @@ use lib.ListN.{length}
 use borrow.Author.Tests.{eq-eqb, ne_eqb, le-leb, lt-leb}
 use Rattle.machine.specs.declared.State.{State}
 use Rattle.machine.specs.Machine.{Machine, machine, Became}
-use Rattle.machine.specs.Runs.{left}
+use Rattle.machine.specs.Runs.{answer_in, left}
 use Rattle.isa.specs.Mil1750.{mil1750}
 use Rattle.machine.proofs.MachineLaws.{became-machine}
-use Rattle.image.specs.declared.Loading.{Loading}
+use Rattle.std.specs.Prelude.{Result, Ok, Err}
+use Rattle.image.specs.declared.LoadError.{LoadError}
 use Rattle.image.specs.Image as image
 use Rattle.report.specs.Report.{refusal_of}
 use Rattle.program.specs.Printed.{the_run, unless, length_number, load_number, started, ran_text, printed, afterwards, Holds}
@@ -54,18 +55,16 @@ accepted-left b x n h e z = rw (le-leb _ _ h, ← e, eq-eqb _ _ z) refl
 -- loading on a machine x of the program's sizes
 module _ (b : List ℕ) (x : Machine) (memory : length x.memory ≡ 16384) (pages : length x.pages ≡ 512) (ports : length x.ports ≡ 1024) where
   -- its number is the definition's
-  pub number_is : (a : Loading) (n : ℕ) → n ≡ image.number_of a → a ≡ image.answer_of b x → n ≡ load_number b
+  pub number_is : {r : Result State LoadError} {m g o : List ℕ} → image.Outcome b x r m g o → image.number_of (answer_in r) ≡ load_number b
   unfolding load_number image.answer_of
-  number_is a n e f = e ∙ ap image.number_of f ∙ rw (memory, pages, ports) refl
+  number_is h = ap image.number_of h.answer-is ∙ rw (memory, pages, ports) refl
 
   -- and an accepted one leaves the machine that the run starts from
-  pub machine-is : (a : Loading) (n : ℕ) (s : State) (m g o : List ℕ) → n ≡ image.number_of a → n ≡ 0 → image.Outcome b x a s m g o → machine s m g o ≡ started b
+  pub machine-is : {s : State} {m g o : List ℕ} → image.Outcome b x (Ok s) m g o → machine s m g o ≡ started b
   unfolding image.after_loading
-  machine-is a n s m g o e z h =
-      became-machine h.became ∙ rw (eq-eqb (image.number_of (image.answer_of b x)) 0 (ap image.number_of (sym h.answer-is) ∙ sym e ∙ z), memory, pages, ports) refl
+  machine-is h = became-machine h.became ∙ rw (← h.answer-is, memory, pages, ports) refl
 
   -- a refused one leaves x
-  pub kept : (a : Loading) (n : ℕ) (s : State) (m g o : List ℕ) → n ≡ image.number_of a → (n ≡ 0 → ⊥) → image.Outcome b x a s m g o → machine s m g o ≡ x
+  pub kept : {e : LoadError} {m g o : List ℕ} → image.Outcome b x (Err e) m g o → machine x.state m g o ≡ x
   unfolding image.after_loading
-  kept a n s m g o e z h =
-      became-machine h.became ∙ rw (ne_eqb (image.number_of (image.answer_of b x)) 0 (λ k. z (e ∙ ap image.number_of h.answer-is ∙ k))) refl
+  kept h = became-machine h.became ∙ rw (← h.answer-is) refl

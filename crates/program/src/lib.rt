@@ -22,14 +22,10 @@ fn run_and_report(
         × Holds (left mil1750 (machine s memory.old pages.old ports.old) the_run) memory.new pages.new ports.new }
 {
     let durations = [100u16; 257];
-    let ran = run::run(s, memory, pages, ports, &durations, 1000);
-    let answer = ran.answer;
-    let refused = run::number(answer) as u32;
-    if refused != 0 {
-        return report::refusal(refused, out);
+    match run::run(s, memory, pages, ports, &durations, 1000) {
+        Ok(left) => report::report(1000, left, out),
+        Err(e) => report::refusal(u32::from(run::number(Err(e))), out),
     }
-    let left = ran.state;
-    report::report(1000, left, out)
 }
 
 // The program's text for an input, on the memory, page registers and ports that it holds, whatever they contain; a refusal leaves them.
@@ -47,12 +43,8 @@ pub fn text_for(
     if 32768 < input.len() {
         return report::refusal(13, out);
     }
-    let loaded = image_load::load(reset::reset_state(), input, memory, pages, ports);
-    let answer = loaded.answer;
-    let refused = image::questions::number(answer) as u32;
-    if refused != 0 {
-        return report::refusal(refused, out);
+    match image_load::load(reset::reset_state(), input, memory, pages, ports) {
+        Ok(state) => run_and_report(state, memory, pages, ports, out),
+        Err(e) => report::refusal(u32::from(image::questions::number(Err(e))), out),
     }
-    let state = loaded.state;
-    run_and_report(state, memory, pages, ports, out)
 }

@@ -1,4 +1,3 @@
--- The laws of the program's text, and known texts.
-pub mod RegisterLaws
+-- Known texts, and wrong answers.
 pub mod Rows
 pub mod Wrong

@@ -1,14 +1,13 @@
 -- A loop that fills a list from the front with the values of a function. Assumes nothing.
-use Prim.Native.Nat.{ℕ, zero, suc, ◌+◌, ◌%◌, ◌≤◌, ◌<◌}
+use Prim.Native.Nat.{ℕ, zero, suc, ◌+◌, ◌≤◌, ◌<◌}
 use mathlib.Core.Path.{◌≡◌, refl, ap, ◌∙◌}
 use mathlib.Core.List.{List, [], ◌∷◌, ◌++◌, append-nil}
 use native.Mathlib.Omega.{arith}
-use native.Mathlib.Nat.{zero-add, add-zero, add-suc, suc-add, mod-one}
+use native.Mathlib.Nat.{zero-add, add-zero, add-suc, suc-add}
 use native.Mathlib.Numerals.{add-one}
-use lib.ListN.{length, set, drop, replicate, length-append, length-drop}
+use lib.ListN.{length, set, drop, length-append, length-drop}
 use lib.Seq.{drop-length}
 use Rattle.choice.specs.Table.{table_of}
-use Rattle.reset.specs.Reset.{cycle}
 
 length-table : (f : ℕ → ℕ) (i n : ℕ) → length (table_of f i n) ≡ n
 length-table f i zero = refl
@@ -43,12 +42,3 @@ module _ (f : ℕ → ℕ) (d : List ℕ) where
       let l = filled-length n xs p in
       let e : n ≡ length d = omega arith in
       p.filled ∙ rw (e, drop-length, append-nil) refl
-
--- a period of 1: every value is 0
-zeros-from : (i n : ℕ) → table_of (λ k. k % 1) i n ≡ replicate n 0
-zeros-from i zero = refl
-zeros-from i (suc n) = rw mod-one (ap (λ (l : List ℕ). 0 ∷ l) (zeros-from (suc i) n))
-
-pub zeros : (n : ℕ) → cycle 1 n ≡ replicate n 0
-unfolding cycle
-zeros n = zeros-from 0 n

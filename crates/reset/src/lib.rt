@@ -1,22 +1,19 @@
 // Reset (Scope, "The machine").
 #![tactic(auto)]
 
-ghost use Rattle.std.specs.Prelude.{◌≡◌, ◌<◌, ◌≤◌, length};
+ghost use Rattle.std.specs.Prelude.{◌≡◌, length};
 ghost use Rattle.machine.specs.State.{reset_state};
 ghost use Rattle.machine.specs.Machine.{Became};
-ghost use Rattle.reset.specs.Reset.{cycle, reset_machine};
+ghost use Rattle.reset.specs.Reset.{reset_pages, reset_machine};
 
 use machine::{Clock, Core, Faults, State};
 
-// Each word its number modulo a period: 16 numbers the pages of every group, 1 makes all words 0; there is no other caller.
-fn fill(words: &mut [u16], period: usize)
-    requires { (0 < period) × (period ≤ 16) }
-    ensures { words.new ≡ cycle period (length words.old) }
+// Each page register its number within its group of 16.
+fn number_pages(pages: &mut [u16])
+    ensures { pages.new ≡ reset_pages (length pages.old) }
 {
-    let mut i: usize = 0;
-    while i < words.len() {
-        words[i] = (i % period) as u16;
-        i += 1;
+    for (k, page) in pages.iter_mut().enumerate() {
+        *page = (k % 16) as u16;
     }
 }
 
@@ -54,8 +51,8 @@ pub fn reset(memory: &mut [u16], pages: &mut [u16], ports: &mut [u16]) -> State
     ensures { Became (reset_machine (length memory.old) (length pages.old) (length ports.old))
         result memory.new pages.new ports.new }
 {
-    fill(memory, 1);
-    fill(pages, 16);
-    fill(ports, 1);
+    memory.fill(0);
+    number_pages(pages);
+    ports.fill(0);
     reset_state()
 }

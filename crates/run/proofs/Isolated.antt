@@ -6,7 +6,7 @@ use mathlib.Core.Option.{Option, none, some}
 use lib.ListN.{length, take}
 use Rattle.machine.specs.Machine.{Machine, machine}
 use Rattle.machine.specs.Timelines.{entry_in}
-use Rattle.machine.specs.Runs.{Run, run_of, made, items, cons_unless, left, answers, after_runs, timeline, first_entry, before_entry}
+use Rattle.machine.specs.Runs.{Run, run_of, answer_in, state_in, made, items, cons_unless, left, answers, after_runs, timeline, first_entry, before_entry}
 use Rattle.machine.specs.Isolation.{Compared, Findings, Isolated, IsolatedApart}
 use Rattle.machine.proofs.MachineLaws.{became-machine}
 use Rattle.machine.proofs.Isolation as machines
@@ -16,14 +16,14 @@ use Rattle.run.specs.Calls.{Call, Ensured, resulting, EachEnsured, runs_of, repl
 
 -- ---- the contract
 
--- `Ensured` is what a caller learns by `run`'s contract, from what is given (the state, memory, page registers, ports, durations, the budget), what is returned, and the three lists at the end
+-- `Ensured` is what a caller learns by `run`'s contract, from what is given (the state, memory, page registers, ports, durations, the budget), what is returned (the answer in it, and the state or after a refusal the given one), and the three lists at the end
 pub contract : (κs : _) (given : _) (returned : _) (end : _)
     → ◌≡◌ {A = Type 0} (reads.Learnt κs given returned end)
     (Ensured (machine given.0 given.1.0.now given.1.1.0.now given.1.1.1.0.now)
     (record {
       run = run_of given.1.1.1.1.1.0 given.1.1.1.1.0.now;
-      answer = returned.answer;
-      state = returned.state;
+      answer = answer_in returned;
+      state = state_in returned given.0;
       memory = end.1.0.now;
       pages = end.1.1.0.now;
       ports = end.1.1.1.0.now;

@@ -4,7 +4,9 @@ use mathlib.Core.List.{List, [], ◌∷◌}
 use lib.Dec.{T}
 use lib.ListN.{replicate}
 use Rattle.choice.proofs.Rows.{Row, some, hold}
-use Rattle.machine.specs.declared.Answer.TheVariants.{Spent, BadMemory, BadPages, BadPorts, BadDurations, BadBudget, BadCounter}
+use Rattle.std.specs.Prelude.{Ok, Err, map}
+use Rattle.machine.specs.declared.SizeError.TheVariants.{BadMemory, BadPages, BadPorts}
+use Rattle.machine.specs.declared.RunError.TheVariants.{BadSize, BadDurations, BadBudget, BadCounter}
 use Rattle.machine.specs.State.{reset_state, with_clock, with_count}
 use Rattle.machine.specs.Machine.{machine}
 use Rattle.machine.specs.Runs.{run_of, number_of, answer_of}
@@ -19,7 +21,7 @@ pub rows : List Row
 unfolding machinery
 rows =
     -- number: a budget that is too large is 5, and a counter that would pass its end is 4; a memory of another size is answered by 0, as a budget that is spent
-    some (number_of Spent ∷ number_of BadMemory ∷ number_of BadPages ∷ number_of BadPorts ∷ number_of BadDurations ∷ number_of BadBudget ∷ number_of BadCounter ∷ [])
+    some (number_of (Ok tt) ∷ map (λ e. number_of (Err e)) (BadSize BadMemory ∷ BadSize BadPages ∷ BadSize BadPorts ∷ BadDurations ∷ BadBudget ∷ BadCounter ∷ []))
     (0 ∷ 1 ∷ 2 ∷ 3 ∷ 17 ∷ 4 ∷ 5 ∷ []) (0 ∷ 1 ∷ 2 ∷ 3 ∷ 17 ∷ 5 ∷ 4 ∷ []) (0 ∷ 0 ∷ 2 ∷ 3 ∷ 17 ∷ 4 ∷ 5 ∷ [])
     -- run: a budget of 1,000,001 steps is not refused; a counter that would pass its end is not refused
     ∷ some (answered 0 1000000 257 ∷ answered 0 1000001 257 ∷ answered 4294967295 1 257 ∷ []) (0 ∷ 4 ∷ 5 ∷ []) (0 ∷ 0 ∷ 5 ∷ []) (0 ∷ 4 ∷ 0 ∷ [])

@@ -2,17 +2,16 @@
 -- `machine/specs/Isolation`; here they are said of the answers, states and lists that the caller gets. Assumes nothing.
 use Rattle.std.specs.Prelude.{ℕ, ◌≡◌, List, [], ◌∷◌, ◌++◌, map, length, take, replicate}
 use Rattle.std.proofs.Math.Option.{none}
-use Rattle.machine.specs.declared.Answer.{Answer}
 use Rattle.machine.specs.declared.State.{State}
 use Rattle.machine.specs.Machine.{Machine, machine, Became}
 use Rattle.machine.specs.Timelines.{Item, stepped}
-use Rattle.machine.specs.Runs.{Run, answer_of, left, steps_of, first_entry, before_entry}
+use Rattle.machine.specs.Runs.{Run, Answer, answer_of, left, steps_of, first_entry, before_entry}
 use Rattle.machine.specs.Isolation.{Found}
 use Rattle.isa.specs.Mil1750.{mil1750}
 
 -- ---- calls
 
--- a call: its run, the answer and the state that it returns, and what it leaves in memory, page registers and ports
+-- a call: its run, its answer and the state that its caller has then (`machine/Runs: answer_in, state_in`), and what it leaves in memory, page registers and ports
 pub record Call : Type 0 where
   pub run : Run
   pub answer : Answer

@@ -1,15 +1,13 @@
 -- What a step does, its end, what stays over it, and steps by segments and batches. Assumes nothing.
-use Prim.Native.Nat.{ℕ, zero, suc, ◌+◌, ◌-◌, ◌*◌, ◌/◌, ◌≤◌, ◌<◌}
+use Prim.Native.Nat.{ℕ, zero, suc, ◌+◌, ◌-◌, ◌*◌, ◌^◌, ◌≤◌, ◌<◌}
 use mathlib.Core.Path.{◌≡◌, refl, sym, ap, ◌∙◌}
-use mathlib.Core.Bool.{Bool, true, false}
+use mathlib.Core.Bool.{false}
 use mathlib.Core.List.{List}
-use mathlib.Core.Logic.{◌≢◌}
 use native.Mathlib.Omega.{arith}
 use native.Mathlib.Numerals.{sub-one}
 use native.Mathlib.Nat.{mul-zero, mul-one, mul-add, mul-le-mul, mul-le-mul_left}
-use lib.Dec.{eqb}
 use lib.ListN.{length, get_or}
-use borrow.Author.Tests.{lt-ltb, le-ltb, ne_eqb, eqb-true, eqb-false}
+use borrow.Author.Tests.{lt-ltb, le-ltb}
 use Rattle.machine.specs.declared.State.{State}
 use Rattle.machine.specs.declared.Core.{Core}
 use Rattle.machine.specs.declared.Clock.{Clock}
@@ -28,14 +26,15 @@ use Rattle.clock.specs.Deferred.{Deferrable, after_ticks, ticked_by, longest_of}
 use Rattle.clock.proofs.DeferredLaws.{ticked-after-ticks, ticked-inside, after-ticks-none, deferrable-less}
 use Rattle.clock.proofs.LongestLaws.{longest-of}
 use Rattle.instruction_retired.specs.declared.Retired.{Retired}
-use Rattle.instruction_retired.specs.Settled.{Settled, after, Lasting}
-use Rattle.instruction_retired.proofs.RetiredLaws.{command-none}
+use Rattle.instruction_retired.specs.Settled.{Settled, after, Lasting, timed_after}
+use Rattle.instruction_retired.specs.declared.TimerCommand.{TimerCommand}
 use Rattle.run_batch.specs.declared.Segment.{Segment}
-use Rattle.run_batch.specs.Batch.{deferred_at, last_of, closed, AllButLast}
+use Rattle.std.specs.Prelude.{Option, Some, None}
+use Rattle.run_batch.specs.Batch.{closed_by, deferred_at, last_of, closed, AllButLast}
 
 -- the segment that ends with an instruction, after which n ticks of e tenths together are deferred
 abbrev pub segment_of : Retired → ℕ → ℕ → Segment
-segment_of v n e = record { core = v.core; deferred = n; tenths = e; command = v.command; first = v.first }
+segment_of v n e = record { core = v.core; deferred = n; tenths = e; timer = v.timer }
 
 -- ---- what a step does, from the interrupt n that is chosen
 
@@ -118,7 +117,7 @@ bounded-none : (longest n e : ℕ) → e ≤ longest * n → n ≡ 0 → e ≡ 0
 bounded-none longest n e b z = let same : longest * n ≡ 0 = ap (λ (m : ℕ). longest * m) z ∙ mul-zero longest in omega arith
 
 -- less than 2^48 tenths
-pub bounded-small : (longest n e : ℕ) → longest < 65536 → n < 4294967296 → e ≤ longest * n → e < 281474976710656
+pub bounded-small : (longest n e : ℕ) → longest < 65536 → n < 4294967296 → e ≤ longest * n → e < 2 ^ 48
 bounded-small longest n e h i b =
     let each : longest ≤ 65535 = omega arith in
     let all : n ≤ 4294967295 = omega arith in
@@ -135,23 +134,21 @@ deferrable-at d n e most k early h b p =
 
 -- a timer command that an instruction left to do, and the tick after it: the instruction came to v over t tenths, after n ticks of e tenths
 module _ (d : List ℕ) (s : State) (n e t : ℕ) (v : Retired) (r : List ℕ) (b : e ≤ longest_of d * n) (early : 0 < n → Deferrable e s.clock)
-    (last : v.command ≢ 0 → t ≡ get_or d (v.first / 256) 0) where
-  ticked-closed : (z : Bool) → eqb v.command 0 ≡ z → ticked t (after (with_clock s (after_ticks n e s.clock)) v r) ≡ closed d s (segment_of v (n + 1) (e + t)) r
-  unfolding closed
-  ticked-closed true z =
-      rw (z, eqb-true v.command 0 z, command-none (deferred_at s n e v.core r) (field_a v.first))
-      (ticked-after-ticks (with_processor s (joined v.core r)) s.clock n e t (bounded-none (longest_of d) n e b) early)
-  ticked-closed false z =
-      let is : t ≡ get_or d (v.first / 256) 0 = last (eqb-false v.command 0 z) in
+    (last : (q : TimerCommand) → v.timer ≡ Some q → t ≡ last_of d q) where
+  ticked-closed : (z : Option TimerCommand) → v.timer ≡ z
+      → ticked t (timed_after (deferred_at s n e v.core r) z) ≡ closed_by d s (segment_of v (n + 1) (e + t)) r z
+  ticked-closed None z = ticked-after-ticks (with_processor s (joined v.core r)) s.clock n e t (bounded-none (longest_of d) n e b) early
+  ticked-closed (Some q) z =
       let before : n + 1 - 1 ≡ n = omega arith in
       let spent : e + t - t ≡ e = omega arith in
-      rw (z, ← is, before, spent) refl
+      rw (← last q z, before, spent) refl
 
   pub closes : ticked t (after (with_clock s (after_ticks n e s.clock)) v r) ≡ closed d s (segment_of v (n + 1) (e + t)) r
-  closes = ticked-closed (eqb v.command 0) refl
+  unfolding closed
+  closes = ticked-closed v.timer refl
 
 -- where no command is left, all ticks are deferred
-closed-deferred : (d : List ℕ) (s : State) (v : Segment) (r : List ℕ) → v.command ≡ 0 → Deferrable v.tenths s.clock
+closed-deferred : (d : List ℕ) (s : State) (v : Segment) (r : List ℕ) → v.timer ≡ None → Deferrable v.tenths s.clock
     → closed d s v r ≡ deferred_at s v.deferred v.tenths v.core r
 unfolding closed
 closed-deferred d s v r z h = rw z (ticked-inside (with_processor s (joined v.core r)) s.clock v.deferred v.tenths h)
@@ -160,7 +157,7 @@ closed-deferred d s v r z h = rw z (ticked-inside (with_processor s (joined v.co
 
 -- the segment of an entry
 abbrev pub entry_segment : Core → ℕ → ℕ → Segment
-entry_segment f n e = record { core = f; deferred = n; tenths = e; command = 0; first = 0 }
+entry_segment f n e = record { core = f; deferred = n; tenths = e; timer = None }
 
 pub entry-made : (isa : Isa) (d : List ℕ) (s : State) (n deferred e most : ℕ) (c f : Core) (r m g o m' : List ℕ) → n ≡ chosen c → n < 16
     → e ≤ longest_of d * deferred → deferred < most → AllButLast d most s.clock
@@ -201,7 +198,7 @@ module _ (isa : Isa) (d : List ℕ) (s : State) (from e₀ deferred e most : ℕ
   ticks k =
       ap (λ x. steps isa d k (tick (lasting d t m g) x)) (sym (became-machine b))
       ∙ ap (λ w. steps isa d k (machine w m' g' o'))
-      (closes d s deferred e (lasting d t m g) v r' bound (deferrable-at d deferred e most s.clock early below bound) (λ z. ap (λ j. get_or d j 0) (sym (last.timed z))))
+      (closes d s deferred e (lasting d t m g) v r' bound (deferrable-at d deferred e most s.clock early below bound) (λ q z. ap (λ j. get_or d j 0) (sym (last.timed q z))))
 
   -- the segment ends; y is the number of its tenths
   pub segment-made : (c : Core) (y : ℕ) → y ≡ e + lasting d t m g → f ≡ released c → 16 ≤ chosen c → (k : ℕ)
@@ -212,7 +209,7 @@ module _ (isa : Isa) (d : List ℕ) (s : State) (from e₀ deferred e most : ℕ
       ∙ ap (λ j. steps isa d k (machine (closed d s (segment_of v (deferred + 1) j) r') m' g' o')) (sym l)
 
   -- the next instruction follows at once
-  pub segment-on : (y : ℕ) → y ≡ e + lasting d t m g → length d ≡ 257 → v.command ≡ 0 → v.core.hold ≡ false → 16 ≤ chosen v.core → deferred + 1 < most → (k : ℕ)
+  pub segment-on : (y : ℕ) → y ≡ e + lasting d t m g → length d ≡ 257 → v.timer ≡ None → v.core.hold ≡ false → 16 ≤ chosen v.core → deferred + 1 < most → (k : ℕ)
       → going isa d (k + (deferred + 1 - from)) (deferred_at s from e₀ f r₀) m₀ g₀ o₀ ≡ going isa d k (deferred_at s (deferred + 1) y v.core r') m' g' o'
   segment-on y l j z i q onward k =
       let more : y ≤ longest_of d * (deferred + 1) = rw l (bounded-step d deferred e t (view t m g) j bound) in
@@ -232,19 +229,19 @@ module _ (isa : Isa) (d : List ℕ) (s : State) (x y : Machine) (n from : ℕ) (
   batch-end z e = goes ∙ ap (λ k. steps isa d k x) (omega arith) ∙ made (n - v.deferred) ∙ ap (λ w. steps isa d (n - v.deferred) (machine w m g o)) (sym e)
 
   -- it goes on
-  pub batch-on : (most : ℕ) → v.command ≡ 0 → v.deferred < most → v.tenths ≤ longest_of d * v.deferred → AllButLast d most s.clock
+  pub batch-on : (most : ℕ) → v.timer ≡ None → v.deferred < most → v.tenths ≤ longest_of d * v.deferred → AllButLast d most s.clock
       → y ≡ steps isa d (n - v.deferred) (machine (deferred_at s v.deferred v.tenths v.core r) m g o)
   batch-on most z below bound early = batch-end _ (sym (closed-deferred d s v r z (deferrable-at d v.deferred v.tenths most s.clock early below bound (omega arith))))
 
 -- its state at the end, where no command is left and where one is
-pub closed-finished : (d : List ℕ) (s : State) (v : Segment) (r : List ℕ) → v.command ≡ 0 → closed d s v r ≡ ticked_by v.deferred v.tenths (with_processor s (joined v.core r))
+pub closed-finished : (d : List ℕ) (s : State) (v : Segment) (r : List ℕ) → v.timer ≡ None → closed d s v r ≡ ticked_by v.deferred v.tenths (with_processor s (joined v.core r))
 unfolding closed
 closed-finished d s v r z = rw z refl
 
-pub closed-commanded : (d : List ℕ) (s : State) (v : Segment) (r : List ℕ) → v.command ≢ 0
-    → closed d s v r ≡ ticked (last_of d v) (timer_command (deferred_at s (v.deferred - 1) (v.tenths - last_of d v) v.core r) (field_a v.first) v.command)
+pub closed-commanded : (d : List ℕ) (s : State) (v : Segment) (r : List ℕ) (t : TimerCommand) → v.timer ≡ Some t
+    → closed d s v r ≡ ticked (last_of d t) (timer_command (deferred_at s (v.deferred - 1) (v.tenths - last_of d t) v.core r) (field_a t.first) t.command)
 unfolding closed
-closed-commanded d s v r z = rw (ne_eqb v.command 0 z) refl
+closed-commanded d s v r t z = rw z refl
 
 -- it begins with no tick to make up for
 pub batch-start : (isa : Isa) (d : List ℕ) (n z e : ℕ) (s : State) (c : Core) (r m g o : List ℕ) → z ≡ 0

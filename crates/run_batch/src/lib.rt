@@ -22,35 +22,33 @@ use clock::durations::{duration_of, entry_duration};
 use clock::time::{elapse, expire, pend, release};
 use command::timers::timer_command;
 use instruction::instruct;
-use instruction_retired::Retired;
+use instruction_retired::{Retired, TimerCommand};
 use interrupt_entry::{arrive, link};
 use interrupt_vector::pending::choose;
 use interrupt_vector::pointers::vector;
 use machine::{Clock, Core};
-use page::Verdict;
 use status_word::{group_of, key_of};
 
 // The entry of interrupt n up to its tick, with any registers and ports, whatever the rest of the state is.
-fn interrupted(core: Core, memory: &mut [u16], pages: &[u16], n: u16) -> Core
-    requires { (length pages.now ≡ 512) × (n < 16) }
+fn interrupted(core: Core, memory: &mut [u16], pages: &[u16; 512], n: u16) -> Core
+    requires { n < 16 }
     ensures { (s : State) (regs ports : List ℕ) → Became (perform (begun_from (with_processor s (joined core regs))) memory.old pages.now ports (spec.enter n))
         (with_processor s (joined result regs)) memory.new pages.now ports }
 {
     let v = vector(memory, pages, n);
     let old = release(core);
-    let stores: Verdict = link(old.mk, old.sw, old.ic, memory, pages, v.sw, v.link);
+    let stores = link(old.mk, old.sw, old.ic, memory, pages, v.sw, v.link);
     arrive(old, n, v, stores)
 }
 
 // A segment of a batch, an entry or instructions in a row, where it ended, before its last tick: the ticks deferred up to there, one for each step of the batch, and
-// their tenths together; a timer command that is still to be done, 0 for none, with the first word of its instruction.
+// their tenths together; a timer command that is still to be done.
 #[derive(Clone, Copy)]
 pub struct Segment {
     pub core: Core,
     pub deferred: u32,
     pub tenths: u64,
-    pub command: u16,
-    pub first: u16,
+    pub timer: Option<TimerCommand>,
 }
 
 // Where a segment ends at the latest, as a number of deferred ticks: after one step, where the hold mark was set, since it hid the choice of an interrupt.
@@ -63,15 +61,13 @@ fn end_of(held: bool, from: u32, most: u32) -> u32
 
 // After an instruction.
 fn ended(retired: Retired, deferred: u32, tenths: u64) -> Segment
-    ensures { result ≡ record { core = retired.core; deferred = deferred; tenths = tenths; command = retired.command; first = retired.first } }
+    ensures { result ≡ record { core = retired.core; deferred = deferred; tenths = tenths; timer = retired.timer } }
 {
-    let core = retired.core;
     Segment {
-        core,
+        core: retired.core,
         deferred,
         tenths,
-        command: retired.command,
-        first: retired.first,
+        timer: retired.timer,
     }
 }
 
@@ -83,13 +79,12 @@ fn obey(
     most: u32,
     regs: &mut [u16; 16],
     memory: &mut [u16],
-    pages: &mut [u16],
-    ports: &mut [u16],
+    pages: &mut [u16; 512],
+    ports: &mut [u16; 1024],
     table: &[u32; 256],
-    durations: &[u16],
+    durations: &[u16; 257],
 ) -> Segment
-    requires { (length pages.old ≡ 512) × (length ports.old ≡ 1024) × (table.now ≡ numbers) × (from < most) × (16 ≤ chosen core)
-        × (length durations.now ≡ 257) × (longest_of durations.now < 65536) × (spent ≤ longest_of durations.now * from) }
+    requires { (table.now ≡ numbers) × (from < most) × (16 ≤ chosen core) × (longest_of durations.now < 65536) × (spent ≤ longest_of durations.now * from) }
     ensures { Made durations.now from spent most core regs.old memory.old pages.old ports.old
         result regs.new memory.new pages.new ports.new }
 {
@@ -99,6 +94,7 @@ fn obey(
     let mut t = release(core);
     let mut deferred = from;
     let mut tenths = spent;
+    // no index is counted: it ends by what a call gives back
     loop {
         let retired = instruct(
             t,
@@ -131,32 +127,29 @@ fn next_segment(
     most: u32,
     regs: &mut [u16; 16],
     memory: &mut [u16],
-    pages: &mut [u16],
-    ports: &mut [u16],
+    pages: &mut [u16; 512],
+    ports: &mut [u16; 1024],
     table: &[u32; 256],
-    durations: &[u16],
+    durations: &[u16; 257],
 ) -> Segment
-    requires { (length pages.old ≡ 512) × (length ports.old ≡ 1024) × (table.now ≡ numbers) × (deferred < most)
-        × (length durations.now ≡ 257) × (longest_of durations.now < 65536) × (tenths ≤ longest_of durations.now * deferred) }
+    requires { (table.now ≡ numbers) × (deferred < most) × (longest_of durations.now < 65536) × (tenths ≤ longest_of durations.now * deferred) }
     ensures { Made durations.now deferred tenths most core regs.old memory.old pages.old ports.old
         result regs.new memory.new pages.new ports.new }
 {
-    let n = choose(core.hold, core.enabled, core.mk, core.pi);
-    if n < 16 {
-        return Segment {
+    match choose(core.hold, core.enabled, core.mk, core.pi) {
+        Some(n) => Segment {
             core: interrupted(core, memory, pages, n),
             deferred: deferred + 1,
             tenths: tenths + entry_duration(durations),
-            command: 0,
-            first: 0,
-        };
+            timer: None,
+        },
+        None => obey(
+            core, deferred, tenths, most, regs, memory, pages, ports, table, durations,
+        ),
     }
-    obey(
-        core, deferred, tenths, most, regs, memory, pages, ports, table, durations,
-    )
 }
 
-// What is left of some steps after a batch of them.
+// Some steps that are due: the core and the clock before them, and how many are left.
 #[derive(Clone, Copy)]
 pub struct Rest {
     pub core: Core,
@@ -166,7 +159,7 @@ pub struct Rest {
 
 // The end of a batch: `deferred` of the n steps are made, over so many tenths, and none of their ticks is. They are made at once.
 fn finish(core: Core, clock: Clock, deferred: u32, tenths: u64, n: u32) -> Rest
-    requires { (deferred ≤ n) × (tenths < 281474976710656) }
+    requires { deferred ≤ n }
     ensures { (result.left ≡ n - deferred) × ((s : State) (regs : List ℕ) → with_clock (with_processor s (joined result.core regs)) result.clock
         ≡ ticked_by deferred tenths (with_clock (with_processor s (joined core regs)) clock)) }
 {
@@ -182,51 +175,49 @@ fn finish_command(
     clock: Clock,
     regs: &mut [u16; 16],
     made: Segment,
-    durations: &[u16],
+    timer: TimerCommand,
+    durations: &[u16; 257],
     n: u32,
 ) -> Rest
-    requires { (0 < made.deferred) × (made.deferred ≤ n) × (made.tenths < 281474976710656) × (length durations.now ≡ 257) × (last_of durations.now made ≤ made.tenths) }
+    requires { (0 < made.deferred) × (made.deferred ≤ n) × (last_of durations.now timer ≤ made.tenths) }
     ensures { (result.left ≡ n - made.deferred) × ((s : State) → with_clock (with_processor s (joined result.core regs.new)) result.clock
-        ≡ ticked (last_of durations.now made) (timer_command (with_clock (with_processor s (joined made.core regs.old))
-        (after_ticks (made.deferred - 1) (made.tenths - last_of durations.now made) clock)) (field_a made.first) made.command)) }
+        ≡ ticked (last_of durations.now timer) (timer_command (with_clock (with_processor s (joined made.core regs.old))
+        (after_ticks (made.deferred - 1) (made.tenths - last_of durations.now timer) clock)) (field_a timer.first) timer.command)) }
 {
-    let last = duration_of(durations, made.first);
+    let last = duration_of(durations, timer.first);
     let current = tick_by(clock, made.deferred - 1, made.tenths - last);
-    let set = timer_command(current, regs, field_a(made.first), made.command);
-    let left = n - made.deferred;
+    let set = timer_command(current, regs, field_a(timer.first), timer.command);
     Rest {
         core: pend(made.core, expire(set, last)),
         clock: elapse(set, last),
-        left,
+        left: n - made.deferred,
     }
 }
 
-// A batch, the first of n steps: as many as there are until a timer may pass its end or a timer command is made. Their ticks are made at once. No step is longer
-// than the longest.
+// A batch, the first of the steps that are due: as many as there are until a timer may pass its end or a timer command is made. Their ticks are made at once. No step is
+// longer than the longest.
 pub fn batch(
-    core: Core,
-    clock: Clock,
+    due: Rest,
     regs: &mut [u16; 16],
     memory: &mut [u16],
-    pages: &mut [u16],
-    ports: &mut [u16],
+    pages: &mut [u16; 512],
+    ports: &mut [u16; 1024],
     table: &[u32; 256],
-    durations: &[u16],
+    durations: &[u16; 257],
     longest: u32,
-    n: u32,
 ) -> Rest
-    requires { (length pages.old ≡ 512) × (length ports.old ≡ 1024) × (table.now ≡ numbers) × (0 < n)
-        × (length durations.now ≡ 257) × (longest ≡ longest_of durations.now) × (0 < longest) × (longest < 65536) }
-    ensures { (result.left < n) × ((s : State)
-        → steps mil1750 durations.now n
-        (machine (with_clock (with_processor s (joined core regs.old)) clock) memory.old pages.old ports.old)
+    requires { (table.now ≡ numbers) × (0 < due.left) × (longest ≡ longest_of durations.now) × (0 < longest) × (longest < 65536) }
+    ensures { (result.left < due.left) × ((s : State)
+        → steps mil1750 durations.now due.left
+        (machine (with_clock (with_processor s (joined due.core regs.old)) due.clock) memory.old pages.old ports.old)
         ≡ steps mil1750 durations.now result.left
         (machine (with_clock (with_processor s (joined result.core regs.new)) result.clock) memory.new pages.new ports.new)) }
 {
-    let most = deferrable(clock, longest, n - 1) + 1;
-    let mut t = core;
+    let most = deferrable(due.clock, longest, due.left - 1) + 1;
+    let mut t = due.core;
     let mut deferred = 0;
     let mut tenths = 0;
+    // no index is counted: it ends by what a call gives back
     loop {
         let made = next_segment(
             t, deferred, tenths, most, regs, memory, pages, ports, table, durations,
@@ -234,11 +225,11 @@ pub fn batch(
         t = made.core;
         deferred = made.deferred;
         tenths = made.tenths;
-        if made.command != 0 {
-            return finish_command(clock, regs, made, durations, n);
+        if let Some(timer) = made.timer {
+            return finish_command(due.clock, regs, made, timer, durations, due.left);
         }
         if most <= deferred {
-            return finish(t, clock, deferred, tenths, n);
+            return finish(t, due.clock, deferred, tenths, due.left);
         }
     }
 }

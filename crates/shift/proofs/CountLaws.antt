@@ -9,7 +9,8 @@ use borrow.Author.Tests.{le-leb, lt-leb}
 use Rattle.twos_complement.specs.Whole.{signed}
 use Rattle.twos_complement.proofs.Diff.{order}
 use Rattle.twos_complement.proofs.Laws.{signed_low, signed_high}
-use Rattle.shift.specs.Shift.{Shifted, outcome, count_of, moved, shifted_by}
+use Rattle.shift.specs.declared.Shifted.{Shifted}
+use Rattle.shift.specs.Shift.{outcome, count_of, moved, shifted_by}
 use Rattle.shift.specs.declared.Count.{Count}
 use Rattle.shift.specs.declared.Count.TheVariants.{Left, Right, Beyond}
 
@@ -57,12 +58,12 @@ unfolding Within
 right-within w z e f = subst (Within w) (sym e ∙ f) (within w z)
 
 -- the three answers of a shift by a count
-module _ (w : ℕ) (left right : ℕ → Shifted) (a count : ℕ) {r : Count} (e : r ≡ count_of w (signed 16 count)) where
-  pub left-shifted : {n : ℕ} {s : Shifted} → r ≡ Left n → s ≡ left n → s ≡ shifted_by w left right a count
+module _ (w : ℕ) (left right : ℕ → Shifted ℕ) (a count : ℕ) {r : Count} (e : r ≡ count_of w (signed 16 count)) where
+  pub left-shifted : {n : ℕ} {s : Shifted ℕ} → r ≡ Left n → s ≡ left n → s ≡ shifted_by w left right a count
   unfolding moved shifted_by
   left-shifted f g = g ∙ ap (moved left right a) (sym f ∙ e)
 
-  pub right-shifted : {n : ℕ} {s : Shifted} → r ≡ Right n → s ≡ right n → s ≡ shifted_by w left right a count
+  pub right-shifted : {n : ℕ} {s : Shifted ℕ} → r ≡ Right n → s ≡ right n → s ≡ shifted_by w left right a count
   unfolding moved shifted_by
   right-shifted f g = g ∙ ap (moved left right a) (sym f ∙ e)
 

@@ -6,14 +6,15 @@ use lib.Dec.{eqb, T}
 use Rattle.choice.proofs.Rows.{all_of}
 use Rattle.twos_complement.specs.Whole.{signed, wrap, holds, shift_left, shift_right, shift_arith, rotate, sign_changes}
 use Rattle.word.specs.Status.{status}
-use Rattle.shift.specs.Shift.{Shifted, count_of, moved, shifted_by, logical_by, arithmetic_by, circular_by}
+use Rattle.shift.specs.declared.Shifted.{Shifted}
+use Rattle.shift.specs.Shift.{count_of, moved, shifted_by, logical_by, arithmetic_by, circular_by}
 
 -- a case: the width, the word, the number of places or the count word; then the result, for a count word with CS and overflow
 pub data Row : Type 0 where
   left right arith cyclic : ℕ → ℕ → ℕ → ℕ → Row
   logically arithmetically cyclically : ℕ → ℕ → ℕ → ℕ → ℕ → Bool → Row
 
-unfoldable pub is : ℕ → Shifted → ℕ → ℕ → Bool → Bool
+unfoldable pub is : ℕ → Shifted ℕ → ℕ → ℕ → Bool → Bool
 unfolding status
 is w s value cs overflow = eqb s.value value && eqb (status w s.value) cs && beq s.overflow overflow
 

@@ -1,9 +1,10 @@
 // Shifts by a count in a register (5.18 to 5.23). The condition status is that of the value.
-ghost use Rattle.std.specs.Prelude.{◌≡◌};
+ghost use Rattle.std.specs.Prelude.{◌≡◌, true};
 ghost use Rattle.twos_complement.specs.Whole.{signed};
-ghost use Rattle.shift.specs.Shift.{count_of, logical_by, arithmetic_by, circular_by, shifted16, shifted32};
+ghost use Rattle.shift.specs.Shift.{count_of, logical_by, arithmetic_by, circular_by, numbered, plain, outcome};
 
-use crate::{Count, Shifted16, Shifted32, places};
+use crate::{Count, Shifted, places};
+use word::width::Word;
 
 // Where a count word moves a word of the given width.
 fn count_of(width: u16, count: u16) -> Count
@@ -11,133 +12,74 @@ fn count_of(width: u16, count: u16) -> Count
 {
     if count < 0x8000 {
         if count <= width {
-            return Count::Left(count);
+            Count::Left(count)
+        } else {
+            Count::Beyond
         }
-        return Count::Beyond;
-    }
-    let back = !count + 1;
-    if back <= width {
-        return Count::Right(back);
-    }
-    Count::Beyond
-}
-
-// Logical (5.18).
-pub fn logical16(a: u16, count: u16) -> Shifted16
-    ensures { result ≡ shifted16 (logical_by 16 a count) }
-{
-    match count_of(16, count) {
-        Count::Left(n) => Shifted16 {
-            value: places::left16(a, n),
-            overflow: false,
-        },
-        Count::Right(n) => Shifted16 {
-            value: places::right16(a, n),
-            overflow: false,
-        },
-        Count::Beyond => Shifted16 {
-            value: a,
-            overflow: true,
-        },
+    } else {
+        let back = !count + 1;
+        if back <= width {
+            Count::Right(back)
+        } else {
+            Count::Beyond
+        }
     }
 }
 
-// Arithmetic (5.19).
-pub fn arithmetic16(a: u16, count: u16) -> Shifted16
-    ensures { result ≡ shifted16 (arithmetic_by 16 a count) }
+// A shifted word without overflow.
+fn plain<W: Word>(value: W) -> Shifted<W>
+    ensures { numbered W.number result ≡ plain (W.number value) }
 {
-    match count_of(16, count) {
-        Count::Left(n) => Shifted16 {
-            value: places::left16(a, n),
-            overflow: places::sign_changes16(a, n),
-        },
-        Count::Right(n) => Shifted16 {
-            value: places::arith16(a, n),
-            overflow: false,
-        },
-        Count::Beyond => Shifted16 {
-            value: a,
-            overflow: true,
-        },
+    Shifted {
+        value,
+        overflow: false,
     }
 }
 
-// Cyclic (5.20).
-pub fn circular16(a: u16, count: u16) -> Shifted16
-    ensures { result ≡ shifted16 (circular_by 16 a count) }
+// A word that is not shifted, as the count is too large.
+fn unmoved<W: Word>(value: W) -> Shifted<W>
+    ensures { numbered W.number result ≡ outcome (W.number value) true }
 {
-    match count_of(16, count) {
-        Count::Left(n) => Shifted16 {
-            value: places::cyclic16(a, n),
-            overflow: false,
-        },
-        Count::Right(n) => Shifted16 {
-            value: places::cyclic16(a, 16 - n),
-            overflow: false,
-        },
-        Count::Beyond => Shifted16 {
-            value: a,
-            overflow: true,
-        },
+    Shifted {
+        value,
+        overflow: true,
     }
 }
 
-// Logical (5.21).
-pub fn logical32(a: u32, count: u16) -> Shifted32
-    ensures { result ≡ shifted32 (logical_by 32 a count) }
+// The three shifts match on the count themselves: two closures for the directions would each need clauses of their own.
+
+// Logical (5.18, 5.21).
+pub fn logical<W: Word>(a: W, count: u16) -> Shifted<W>
+    ensures { numbered W.number result ≡ logical_by W.WIDTH (W.number a) count }
 {
-    match count_of(32, count) {
-        Count::Left(n) => Shifted32 {
-            value: places::left32(a, n),
-            overflow: false,
-        },
-        Count::Right(n) => Shifted32 {
-            value: places::right32(a, n),
-            overflow: false,
-        },
-        Count::Beyond => Shifted32 {
-            value: a,
-            overflow: true,
-        },
+    match count_of(W::WIDTH, count) {
+        Count::Left(n) => plain(places::left(a, n)),
+        Count::Right(n) => plain(places::right(a, n)),
+        Count::Beyond => unmoved(a),
     }
 }
 
-// Arithmetic (5.22).
-pub fn arithmetic32(a: u32, count: u16) -> Shifted32
-    ensures { result ≡ shifted32 (arithmetic_by 32 a count) }
+// Arithmetic (5.19, 5.22).
+pub fn arithmetic<W: Word>(a: W, count: u16) -> Shifted<W>
+    ensures { numbered W.number result ≡ arithmetic_by W.WIDTH (W.number a) count }
 {
-    match count_of(32, count) {
-        Count::Left(n) => Shifted32 {
-            value: places::left32(a, n),
-            overflow: places::sign_changes32(a, n),
+    match count_of(W::WIDTH, count) {
+        Count::Left(n) => Shifted {
+            value: places::left(a, n),
+            overflow: places::sign_changes(a, n),
         },
-        Count::Right(n) => Shifted32 {
-            value: places::arith32(a, n),
-            overflow: false,
-        },
-        Count::Beyond => Shifted32 {
-            value: a,
-            overflow: true,
-        },
+        Count::Right(n) => plain(places::arith(a, n)),
+        Count::Beyond => unmoved(a),
     }
 }
 
-// Cyclic (5.23).
-pub fn circular32(a: u32, count: u16) -> Shifted32
-    ensures { result ≡ shifted32 (circular_by 32 a count) }
+// Cyclic (5.20, 5.23).
+pub fn circular<W: Word>(a: W, count: u16) -> Shifted<W>
+    ensures { numbered W.number result ≡ circular_by W.WIDTH (W.number a) count }
 {
-    match count_of(32, count) {
-        Count::Left(n) => Shifted32 {
-            value: places::cyclic32(a, n),
-            overflow: false,
-        },
-        Count::Right(n) => Shifted32 {
-            value: places::cyclic32(a, 32 - n),
-            overflow: false,
-        },
-        Count::Beyond => Shifted32 {
-            value: a,
-            overflow: true,
-        },
+    match count_of(W::WIDTH, count) {
+        Count::Left(n) => plain(places::cyclic(a, n)),
+        Count::Right(n) => plain(places::cyclic(a, W::WIDTH - n)),
+        Count::Beyond => unmoved(a),
     }
 }

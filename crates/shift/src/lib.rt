@@ -5,6 +5,7 @@ pub mod counted;
 pub mod places;
 
 // Where the count in a register moves a word: to the left or to the right by some places, or nowhere, as it exceeds the width.
+// Three cases, two of them with a number: an Option would need an enum of those two within.
 #[derive(Clone, Copy)]
 pub enum Count {
     Left(u16),
@@ -12,16 +13,9 @@ pub enum Count {
     Beyond,
 }
 
-// A shifted 16-bit word, and whether fixed point overflow occurs.
+// A shifted word, and whether fixed point overflow occurs. The value counts in both cases (`shift/Shift: logical_by`), so it is no Option.
 #[derive(Clone, Copy)]
-pub struct Shifted16 {
-    pub value: u16,
-    pub overflow: bool,
-}
-
-// A shifted 32-bit word, and whether fixed point overflow occurs.
-#[derive(Clone, Copy)]
-pub struct Shifted32 {
-    pub value: u32,
+pub struct Shifted<W> {
+    pub value: W,
     pub overflow: bool,
 }

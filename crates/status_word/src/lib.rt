@@ -9,6 +9,7 @@ use machine::Core;
 use std::num::wrapping_add_u16;
 
 // PS, bits 8 to 11: the key.
+#[tactic(auto, unfolding(machine::specs::State::key_of))]
 pub fn key_of(sw: u16) -> u16
     ensures { (result ≡ key_of sw) × (result < 16) }
 {
@@ -16,6 +17,7 @@ pub fn key_of(sw: u16) -> u16
 }
 
 // AS, bits 12 to 15: the group of page registers.
+#[tactic(auto, unfolding(machine::specs::State::group_of))]
 pub fn group_of(sw: u16) -> u16
     ensures { (result ≡ group_of sw) × (result < 16) }
 {
@@ -30,6 +32,7 @@ pub fn with_cs(sw: u16, cs: u16) -> u16
 }
 
 // IC and n words on.
+#[tactic(auto, unfolding(page::specs::Spans::wrapped))]
 pub fn advance(ic: u16, n: u16) -> u16
     ensures { result ≡ wrapped (ic + n) }
 {
@@ -37,12 +40,9 @@ pub fn advance(ic: u16, n: u16) -> u16
 }
 
 // The core with IC, SW and PI changed.
+#[tactic(auto, unfolding(machine::specs::State::with_ic, machine::specs::State::with_sw, machine::specs::State::with_pi))]
 pub fn update(core: Core, ic: u16, sw: u16, pi: u16) -> Core
     ensures { result ≡ updated core ic sw pi }
 {
-    let mut t = core;
-    t.ic = ic;
-    t.sw = sw;
-    t.pi = pi;
-    t
+    Core { ic, sw, pi, ..core }
 }

@@ -1,17 +1,16 @@
 -- Two wrong answers of each contract that other crates call, each beside the right one, which the checker computes. Assumes nothing.
-use Rattle.std.proofs.Common.{ℕ, T, List, [], ◌∷◌, take, set, replicate}
+use Rattle.std.proofs.Common.{ℕ, T, List, [], ◌∷◌, take, set, replicate, Err, Ok, Result}
+use Rattle.page.specs.declared.Refusal.{Refusal}
 use Rattle.choice.proofs.Rows.{Row, some, hold}
 use Rattle.page.specs.declared.Access.TheVariants.{Read, Write}
-use Rattle.page.specs.declared.Got.{Got}
-use Rattle.page.specs.declared.Got.TheVariants.{Word, Missed}
 use Rattle.page.specs.declared.Span.{Span}
 use Rattle.page.specs.Pages.{lock_of, protect_of, frame_of, set_of, register_at, ioi_of, mfs_at, refusal, admits, barred, physical, placed, through, present, lookup}
 use Rattle.page.specs.Spans.{wrapped, got_at, word_of, put_at, passed, read_from, written_from, written}
 
 -- what was got: 1 and the word, or 0, the FT bit and the status
-abbrev parts : Got → List ℕ
-parts (Word w) = 1 ∷ w ∷ []
-parts (Missed b) = 0 ∷ b.ft ∷ b.mfs ∷ []
+abbrev parts : Result ℕ Refusal → List ℕ
+parts (Ok w) = 1 ∷ w ∷ []
+parts (Err b) = 0 ∷ b.ft ∷ b.mfs ∷ []
 
 abbrev memory : List ℕ
 memory = 10 ∷ 11 ∷ 12 ∷ 13 ∷ []
@@ -37,8 +36,6 @@ unfolding places wrapped got_at word_of put_at passed read_from written_from wri
 rows =
     -- read::read_word: FT bit 0 for a word past the memory; a word past the memory read as 0
     some (parts (got_at memory (lookup Read 0 3 pages 4 0x1005))) (0 ∷ 0x0080 ∷ 0x1003 ∷ []) (0 ∷ 0x8000 ∷ 0x1003 ∷ []) (1 ∷ 0 ∷ [])
-    -- read::word_of: the FT bit in place of 0; FFFF in place of 0
-    ∷ some (word_of (Word 7) ∷ word_of (Missed (refusal 0x8000 0x1003)) ∷ []) (7 ∷ 0 ∷ []) (7 ∷ 0x8000 ∷ []) (7 ∷ 0xFFFF ∷ [])
     -- read::read_span: the hole read too; the words read upwards
     ∷ some (take 4 (read_from 0 0 pages 4 span memory 3 0 3 (replicate 16 9)))
     (13 ∷ 9 ∷ 11 ∷ 9 ∷ []) (13 ∷ 12 ∷ 11 ∷ 9 ∷ []) (13 ∷ 9 ∷ 0 ∷ 9 ∷ [])

@@ -1,4 +1,4 @@
-// Words of the memory, one or those of a span, read and stored through the page registers. Callers have 512 page registers: a run asks for them.
+// Words of the memory, one or those of a span, read and stored through the page registers.
 #![tactic(auto)]
 
 pub mod read;

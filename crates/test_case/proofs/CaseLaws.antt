@@ -1,22 +1,16 @@
 -- A new case, its run on the words that it is lent, and its text. Assumes nothing.
-use Rattle.std.proofs.Common.{◌≡◌, ℕ, ◌+◌, ◌%◌, ◌<◌, min, Bool, false, cond, eqb, List, ◌++◌, length, take, drop, replicate, sym, refl, ap, ◌∙◌, ap₂, lt_of_not-le, arith, drop_of_length-le, take_all}
+use Rattle.std.proofs.Common.{◌≡◌, ℕ, ◌<◌, min, Bool, false, cond, eqb, List, ◌++◌, length, take, drop, replicate, sym, refl, ap, ◌∙◌, ap₂, Ok, Err, ne_eqb, lt_of_not-le, arith, drop_of_length-le, take_all}
 use native.Mathlib.Decide.{dec_le}
 use lib.Seq.{take-length, drop-length}
 use Rattle.machine.specs.declared.State.{State}
-use Rattle.machine.specs.declared.Answer.{Answer}
+use Rattle.machine.proofs.RunLaws.{number-refused}
 use Rattle.machine.specs.Machine.{machine, Became}
-use Rattle.machine.specs.Runs.{run_of, number_of, answer_of, steps_of, made, left}
+use Rattle.machine.specs.Runs.{Answer, run_of, number_of, answer_of, steps_of, made, left}
 use Rattle.machine.proofs.MachineLaws.{became-machine}
 use Rattle.isa.specs.Mil1750.{mil1750}
 use Rattle.reset.specs.Reset.{reset_machine}
-use Rattle.test_case.specs.declared.Lengths.{Lengths}
-use Rattle.test_case.specs.Session.{one_more}
+use Rattle.test_case.specs.declared.case.Lengths.{Lengths}
 use Rattle.test_case.specs.Case.{Case, lengths, case, fresh, lent, case_run, rejoined, ran, changes, state_lines, case_text}
-
--- the number after n
-pub one_more-is : (n r : ℕ) → r ≡ (n + 1) % 4294967296 → r ≡ one_more n
-unfolding one_more
-one_more-is n r e = e
 
 -- after reset of lists of these sizes
 module _ (m₀ g₀ o₀ : List ℕ) (memory : length m₀ ≡ 16384) (pages : length g₀ ≡ 512) (ports : length o₀ ≡ 1024) where
@@ -65,9 +59,15 @@ module _ (s : State) (m g o d : List ℕ) (l : Lengths) (t : Bool) (b i j k n : 
         ports-is = rw (h.ports-is, other-words _ _ _ ports) (ap (λ z. z.ports ++ drop l.ports o) y);
       }
 
+-- the steps that a run makes, by the number of its answer
+steps-number : (a : Answer) (b : ℕ) → cond (eqb (number_of a) 0) b 0 ≡ steps_of a b
+unfolding number_of steps_of
+steps-number (Ok u) b = refl
+steps-number (Err e) b = rw (ne_eqb _ _ (number-refused e)) refl
+
 -- the text of a case, from the parts of what its run hands back and leaves
 pub text-is : (n b : ℕ) (c : Case) {a : Answer} {k j : ℕ} {s : State} {m g o : List ℕ} → a ≡ answer_of (lent c) (case_run c b) → k ≡ number_of a → j ≡ cond (eqb k 0) b 0
     → Became (ran c b) s m g o
     → state_lines n k j c.timed s ++ (changes 77 c.before.memory m ++ (changes 80 c.before.pages g ++ changes 79 c.before.ports o)) ≡ case_text n b c
-unfolding case_text made steps_of
-text-is n b c e f h w = rw (h, f, e, w.state-is, w.memory-is, w.pages-is, w.ports-is) refl
+unfolding case_text made
+text-is n b c e f h w = rw (h, f, steps-number, e, w.state-is, w.memory-is, w.pages-is, w.ports-is) refl

@@ -3,28 +3,28 @@ use Rattle.std.proofs.Common.{ℕ, true, false, T, List, [], ◌∷◌, length, 
 use Rattle.choice.proofs.Rows.{Row, some, hold, flag}
 use Rattle.machine.proofs.Opened.{machinery}
 use Rattle.reset.specs.Reset.{cycle, reset_pages, reset_machine}
-use Rattle.text.specs.Texts.{leading, decimal, numbered_line, digit_of, given, word_of}
+use Rattle.text.specs.Texts.{leading, decimal, numbered_line, digit_of, word_by, word_of}
 use Rattle.report.specs.Report.{steps_line, report_of}
-use Rattle.test_case_line.specs.Lines.{size_of, limit_of, entry_of, line_of}
+use Rattle.test_case_line.specs.Kinds.{kind_of}
+use Rattle.test_case_line.specs.Lines.{entry_of, entry_by, line_of}
 use Rattle.test_case_line.specs.Texts.{case_line}
-use Rattle.test_case.specs.Case.{fresh, lending, with_duration, changed, entered, lent, rejoined, ran, state_lines, case_text}
+use Rattle.test_case.specs.Case.{fresh, with_duration, changed, entered, lent, rejoined, ran, state_lines, case_text}
 use Rattle.test_case.specs.Session.{Session, one_more, begun, with_entry, on_run, on_entry, on_line, next_line, on_end, with_byte, on_byte, on_last, said_if, closing}
 
 -- opens the definitions of readings at once, and those of cases and of texts
 unfoldable readings : Unit {0}
-unfolding digit_of given word_of size_of limit_of entry_of line_of one_more begun with_entry on_run on_entry on_line next_line on_end with_byte on_byte on_last said_if closing
+unfolding digit_of word_by word_of kind_of entry_of entry_by line_of one_more begun with_entry on_run on_entry on_line next_line on_end with_byte on_byte on_last said_if closing
 readings = tt
 
 unfoldable cases : Unit {0}
-unfolding cycle reset_pages reset_machine leading decimal steps_line report_of case_line numbered_line fresh lending with_duration changed entered lent rejoined ran state_lines case_text
+unfolding cycle reset_pages reset_machine leading decimal steps_line report_of case_line numbered_line fresh with_duration changed entered lent rejoined ran state_lines case_text
 cases = tt
 
 -- the reading after so many lines and cases, with eleven bytes of a line: a kind letter, two blanks, and the last digit of a number and of a word, whose other digits are 0
 abbrev at : Session → ℕ → ℕ → ℕ → Session
 at x k n w =
     record {
-      line = k ∷ 32 ∷ 48 ∷ 48 ∷ 48 ∷ n ∷ 32 ∷ 48 ∷ 48 ∷ 48 ∷ w ∷ 0 ∷ [];
-      at = 11;
+      line = k ∷ 32 ∷ 48 ∷ 48 ∷ 48 ∷ n ∷ 32 ∷ 48 ∷ 48 ∷ 48 ∷ w ∷ [];
       lines = x.lines;
       cases = x.cases;
       started = x.started;

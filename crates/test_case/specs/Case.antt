@@ -8,7 +8,13 @@ use Rattle.reset.specs.Reset.{reset_machine}
 use Rattle.report.specs.Report.{report_of}
 use Rattle.test_case_line.specs.Fields.{with_word}
 use Rattle.test_case_line.specs.Texts.{case_line, time_line, remainder_line, mfs_line, entry_line}
-use Rattle.test_case.specs.declared.Lengths.{Lengths}
+use Rattle.test_case_line.specs.declared.kind.Kind.{Kind}
+use Rattle.test_case_line.specs.declared.kind.Kind.TheVariants.{Memory, Page, Port, Duration, Length}
+use Rattle.test_case_line.specs.declared.kind.Lent.{Lent}
+use Rattle.test_case_line.specs.declared.kind.Lent.TheVariants.{Memory as Words, Pages, Ports, Durations}
+use Rattle.test_case_line.specs.Lent.{lent_of}
+use Rattle.test_case.specs.declared.case.Lengths.{Lengths}
+use Rattle.test_case.specs.declared.case.Case.{Case as Held}
 
 -- the machine before the run, the durations, how many words of memory, page registers, ports and durations the run is lent, and whether an entry names a duration
 pub record Case : Type 0 where
@@ -23,38 +29,39 @@ lengths m g o d = record { memory = m; pages = g; ports = o; durations = d }
 abbrev pub case : Machine → List ℕ → Lengths → Bool → Case
 case x d l t = record { before = x; durations = d; lengths = l; timed = t }
 
+-- a case as the code holds it
+unfoldable pub case_of : Held → Case
+case_of c = case (machine c.state c.memory c.pages c.ports) c.durations c.lengths c.timed
+
 -- a case without an entry: the machine after reset and 100 tenths for each duration, all of it lent
 unfoldable pub fresh : Case
 fresh = case (reset_machine 16384 512 1024) (replicate 257 100) (lengths 16384 512 1024 257) false
 
--- ---- entries: a kind letter k, a number n and a word w
+-- ---- entries: a kind, a number n and a word w
 
--- "L": how many words of memory (0), page registers (1), ports (2), durations (3) are lent
-unfoldable pub lending : Lengths → ℕ → ℕ → Lengths
-lending l n w =
-    cond (n == 0) (lengths w l.pages l.ports l.durations)
-    (cond (n == 1) (lengths l.memory w l.ports l.durations)
-    (cond (n == 2) (lengths l.memory l.pages w l.durations)
-    (lengths l.memory l.pages l.ports w)))
+-- how many words of a list are lent
+abbrev pub lending : Lengths → Lent → ℕ → Lengths
+lending l Words w = lengths w l.pages l.ports l.durations
+lending l Pages w = lengths l.memory w l.ports l.durations
+lending l Ports w = lengths l.memory l.pages w l.durations
+lending l Durations w = lengths l.memory l.pages l.ports w
 
--- "D": a duration, or all of them (257)
+-- a duration, or all of them (257)
 unfoldable pub with_duration : List ℕ → ℕ → ℕ → List ℕ
 with_duration d n w = cond (n == 257) (replicate 257 w) (slice_set d n w)
 
--- "M" a word of memory, "P" a page register, "O" a port, "S" a word of the state
-unfoldable pub changed : Machine → ℕ → ℕ → ℕ → Machine
-changed x k n w =
-    cond (k == 77) (machine x.state (slice_set x.memory n w) x.pages x.ports)
-    (cond (k == 80) (machine x.state x.memory (slice_set x.pages n w) x.ports)
-    (cond (k == 79) (machine x.state x.memory x.pages (slice_set x.ports n w))
-    (machine (with_word x.state n w) x.memory x.pages x.ports)))
+-- a word of memory, a page register, a port, else a word of the state
+unfoldable pub changed : Machine → Kind → ℕ → ℕ → Machine
+changed x Memory n w = machine x.state (slice_set x.memory n w) x.pages x.ports
+changed x Page n w = machine x.state x.memory (slice_set x.pages n w) x.ports
+changed x Port n w = machine x.state x.memory x.pages (slice_set x.ports n w)
+changed x k n w = machine (with_word x.state n w) x.memory x.pages x.ports
 
 -- any entry but the run
-unfoldable pub entered : Case → ℕ → ℕ → ℕ → Case
-entered c k n w =
-    cond (k == 76) (case c.before c.durations (lending c.lengths n w) c.timed)
-    (cond (k == 68) (case c.before (with_duration c.durations n w) c.lengths true)
-    (case (changed c.before k n w) c.durations c.lengths c.timed))
+unfoldable pub entered : Case → Kind → ℕ → ℕ → Case
+entered c Length n w = case c.before c.durations (lending c.lengths (lent_of n) w) c.timed
+entered c Duration n w = case c.before (with_duration c.durations n w) c.lengths true
+entered c k n w = case (changed c.before k n w) c.durations c.lengths c.timed
 
 -- ---- the run, of a budget b
 

@@ -1,85 +1,55 @@
 // What an entry sets.
 ghost use Rattle.std.specs.Prelude.{◌≡◌};
-ghost use Rattle.test_case.specs.Case.{lending, with_duration};
-ghost use Rattle.test_case.specs.Session.{session_of, with_entry};
+ghost use Rattle.test_case.specs.Case.{case_of, lending, with_duration, entered};
 
-use crate::{Lengths, Reading};
+use crate::case::{Case, Lengths};
+use test_case_line::kind::{Kind, Lent};
+use test_case_line::{Entry, set};
 
-// How many words of a list the run is lent.
-fn lend(l: Lengths, number: u16, word: u16) -> Lengths
-    ensures { result ≡ lending l number word }
-{
-    let mut t = l;
-    if number == 0 {
-        t.memory = word;
-        return t;
+impl Lengths {
+    // How many words of a list the run is lent.
+    fn lend(&mut self, list: Lent, word: u16)
+        ensures { self.new ≡ lending self.old list word }
+    {
+        match list {
+            Lent::Memory => self.memory = word,
+            Lent::Pages => self.pages = word,
+            Lent::Ports => self.ports = word,
+            Lent::Durations => self.durations = word,
+        }
     }
-    if number == 1 {
-        t.pages = word;
-        return t;
-    }
-    if number == 2 {
-        t.ports = word;
-        return t;
-    }
-    t.durations = word;
-    t
 }
 
 // A duration, or all of them.
-fn set_duration(durations: [u16; 257], number: u16, word: u16) -> [u16; 257]
-    ensures { result ≡ with_duration durations number word }
+#[tactic(auto, unfolding(crate::specs::Case::with_duration))]
+fn set_duration(durations: &mut [u16; 257], number: u16, word: u16)
+    ensures { durations.new ≡ with_duration durations.old number word }
 {
     if number == 257 {
-        return [word; 257];
+        *durations = [word; 257];
+    } else {
+        set::put(durations, number, word);
     }
-    let mut t = durations;
-    test_case_line::set::put(&mut t, number, word);
-    t
 }
 
-// Any entry but a run.
-pub(crate) fn enter(
-    r: Reading,
-    kind: u8,
-    number: u16,
-    word: u16,
-    memory: &mut [u16; 16384],
-    pages: &mut [u16; 512],
-    ports: &mut [u16; 1024],
-) -> Reading
-    ensures { session_of result memory.new pages.new ports.new
-        ≡ with_entry (session_of r memory.old pages.old ports.old) kind number word }
-{
-    let mut t = r;
-    t.started = true;
-    if kind == b'L' {
-        let old = t.lengths;
-        let new = lend(old, number, word);
-        t.lengths = new;
-        return t;
+impl Case {
+    // Any entry but a run.
+    #[tactic(auto, unfolding(crate::specs::Case::case_of, crate::specs::Case::entered, crate::specs::Case::changed))]
+    pub(crate) fn enter(&mut self, entry: Entry)
+        ensures { case_of self.new ≡ entered (case_of self.old) entry.kind entry.number entry.word }
+    {
+        let number = entry.number;
+        let word = entry.word;
+        match entry.kind {
+            Kind::Length => self.lengths.lend(Lent::of(number), word),
+            Kind::Duration => {
+                set_duration(&mut self.durations, number, word);
+                self.timed = true;
+            }
+            Kind::Memory => set::put(&mut self.memory, number, word),
+            Kind::Page => set::put(&mut self.pages, number, word),
+            Kind::Port => set::put(&mut self.ports, number, word),
+            Kind::State | Kind::Run => self.state = set::state(self.state, number, word),
+        }
     }
-    if kind == b'D' {
-        let old = t.durations;
-        let new = set_duration(old, number, word);
-        t.durations = new;
-        t.timed = true;
-        return t;
-    }
-    if kind == b'M' {
-        test_case_line::set::put(memory, number, word);
-        return t;
-    }
-    if kind == b'P' {
-        test_case_line::set::put(pages, number, word);
-        return t;
-    }
-    if kind == b'O' {
-        test_case_line::set::put(ports, number, word);
-        return t;
-    }
-    let old = t.state;
-    let new = test_case_line::set::state(old, number, word);
-    t.state = new;
-    t
 }

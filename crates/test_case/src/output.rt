@@ -1,30 +1,27 @@
 // Text put into a buffer of 262,144 bytes from a place on; each function returns the place after it. Each caller leaves room for it. A case's
-// text is at most 1,024 bytes of state and 12 for each word that has changed.
-ghost use Rattle.std.specs.Prelude.{◌≡◌, ◌+◌, ◌*◌, ◌≤◌, [], ◌++◌, length, if◌then◌else◌, nat_eq};
+// text is at most 1,024 bytes of state and 12 for each word that has changed. The buffer with its places stays: `Text` promises of `input` that the bytes of the
+// caller's array behind the text stay (docs/TRACE.md), and a vector of that length of its own would be filled with blanks for each of the 9,615 cases.
+ghost use Rattle.std.specs.Prelude.{◌≡◌, ◌+◌, ◌*◌, ◌≤◌, ◌++◌, length};
+ghost use Rattle.arrayvec.specs.ArrayVec.{array_vec_len};
 ghost use Rattle.text.specs.Texts.{numbered_line, Wrote};
-ghost use Rattle.test_case_line.specs.Texts.{remainder_line, mfs_line, entry_line};
+ghost use Rattle.test_case_line.specs.Texts.{entry_line};
 ghost use Rattle.test_case.specs.Case.{changes, state_lines};
 ghost use Rattle.test_case.specs.Session.{said_if};
 
+use arrayvec::ArrayVec;
 use machine::State;
+use report::put_report;
 use test_case_line::output::{case_line, entry_line, mfs_line, remainder_line, time_line};
-use text::{copy, numbered_line};
-
-fn add(out: &mut [u8; 262144], at: usize, line: &[u8]) -> usize
-    requires { at + length line.now ≤ 262144 }
-    ensures { (Wrote out.old at line.now out.new result) × (result ≡ at + length line.now) }
-{
-    copy(out, at, line)
-}
+use text::{copy, put_numbered_line};
 
 // A message of at most 200 bytes and a number.
 pub(crate) fn put_message(out: &mut [u8; 262144], at: usize, message: &[u8], number: u32) -> usize
     requires { (at + 256 ≤ 262144) × (length message.now ≤ 200) }
     ensures { (Wrote out.old at (numbered_line message.now number) out.new result) × (result ≤ at + 256) }
 {
-    let mut line = [0u8; 256];
-    let end = numbered_line(message, number, &mut line);
-    add(out, at, &line[..end])
+    let mut line = ArrayVec::<u8, 256>::new();
+    put_numbered_line(&mut line, message, number);
+    copy(out, at, line.as_slice())
 }
 
 // The same where it is to be said.
@@ -44,33 +41,31 @@ pub(crate) fn put_if(
     at
 }
 
-// The remainders, where they are to be shown.
-fn put_remainders(out: &mut [u8; 262144], at: usize, timed: bool, state: State) -> usize
-    requires { at + 256 ≤ 262144 }
-    ensures { (Wrote out.old at (if timed then remainder_line state else []) out.new result) × (result ≤ at + 256) }
+// A case's number, the number of its run's answer, its steps, and the state after it, put behind a text: the remainders where they are to be shown, the memory
+// fault status where it is not 0.
+fn state_lines<const N: usize>(
+    out: &mut ArrayVec<u8, N>,
+    number: u32,
+    answer: u32,
+    steps: u32,
+    timed: bool,
+    state: State,
+)
+    requires { array_vec_len out.old + 263 ≤ N }
+    ensures { out.new.items ≡ out.old.items ++ state_lines number answer steps timed state }
 {
+    case_line(out, number, answer);
+    put_report(out, steps, state);
+    time_line(out, state);
     if timed {
-        let mut line = [0u8; 256];
-        let end = remainder_line(state, &mut line);
-        return add(out, at, &line[..end]);
+        remainder_line(out, state);
     }
-    at
+    if state.core.faults.mfs != 0 {
+        mfs_line(out, state);
+    }
 }
 
-// The memory fault status, where it is not 0.
-fn put_mfs(out: &mut [u8; 262144], at: usize, state: State) -> usize
-    requires { at + 256 ≤ 262144 }
-    ensures { (Wrote out.old at (if nat_eq state.core.faults.mfs 0 then [] else mfs_line state) out.new result) × (result ≤ at + 256) }
-{
-    if state.core.faults.mfs == 0 {
-        return at;
-    }
-    let mut line = [0u8; 256];
-    let end = mfs_line(state, &mut line);
-    add(out, at, &line[..end])
-}
-
-// A case's number, the number of its run's answer, its steps, and the state after it.
+// The same at the start of the buffer.
 pub(crate) fn put_state(
     out: &mut [u8; 262144],
     number: u32,
@@ -81,15 +76,9 @@ pub(crate) fn put_state(
 ) -> usize
     ensures { (Wrote out.old 0 (state_lines number answer steps timed state) out.new result) × (result ≤ 1024) }
 {
-    let mut line = [0u8; 256];
-    let end = case_line(number, answer, &mut line);
-    let at = add(out, 0, &line[..end]);
-    let end = report::report(steps, state, &mut line);
-    let at = add(out, at, &line[..end]);
-    let end = time_line(state, &mut line);
-    let at = add(out, at, &line[..end]);
-    let at = put_remainders(out, at, timed, state);
-    put_mfs(out, at, state)
+    let mut text = ArrayVec::<u8, 1024>::new();
+    state_lines(&mut text, number, answer, steps, timed, state);
+    copy(out, 0, text.as_slice())
 }
 
 // An entry.
@@ -97,9 +86,9 @@ fn put_entry(out: &mut [u8; 262144], at: usize, kind: u8, number: u16, word: u16
     requires { at + 12 ≤ 262144 }
     ensures { (Wrote out.old at (entry_line kind number word) out.new result) × (result ≡ at + 12) }
 {
-    let mut line = [0u8; 256];
-    let end = entry_line(kind, number, word, &mut line);
-    add(out, at, &line[..end])
+    let mut line = ArrayVec::<u8, 12>::new();
+    entry_line(&mut line, kind, number, word);
+    copy(out, at, line.as_slice())
 }
 
 // The entries of the words that have changed.
@@ -108,12 +97,9 @@ fn put_changes(out: &mut [u8; 262144], at: usize, kind: u8, before: &[u16], afte
     ensures { (Wrote out.old at (changes kind before.now after.now) out.new result) × (result ≤ at + 12 * length after.now) }
 {
     let mut to = at;
-    let mut n: usize = 0;
-    while n < after.len() {
-        let i = n;
-        n += 1;
-        if before[i] != after[i] {
-            to = put_entry(out, to, kind, i as u16, after[i]);
+    for n in 0..after.len() {
+        if before[n] != after[n] {
+            to = put_entry(out, to, kind, n as u16, after[n]);
         }
     }
     to

@@ -1,17 +1,17 @@
 -- Two wrong answers of each contract that other crates call, beside the right one, which the checker computes. Assumes nothing.
-use Prim.Native.Nat.{ℕ}
-use mathlib.Core.Bool.{true, false}
-use mathlib.Core.List.{List, [], ◌∷◌, ◌++◌}
-use lib.Dec.{T}
-use lib.ListN.{set, replicate}
+use Rattle.std.proofs.Common.{ℕ, true, false, List, [], ◌∷◌, ◌++◌, T, set, replicate, Option, Some, None, Result, Ok, Err}
 use Rattle.choice.proofs.Rows.{Row, some, hold}
 use Rattle.machine.specs.declared.State.{State}
 use Rattle.machine.proofs.Opened.{machinery}
-use Rattle.text.specs.Texts.{bytes_of, digit, hex, leading, decimal, digit_of, given, word_of}
+use Rattle.text.specs.Texts.{bytes_of, digit, hex, leading, decimal, digit_of, word_by, word_of}
 use Rattle.packed.specs.Packed.{marks, marked, mark_at, marks_of, with_marks, layout, unpacked, packed}
-use Rattle.test_case_line.specs.declared.Line.{Line}
-use Rattle.test_case_line.specs.declared.Line.TheVariants.{Remark, Entry, Malformed}
-use Rattle.test_case_line.specs.Lines.{size_of, limit_of, entry_of, line_of}
+use Rattle.test_case_line.specs.declared.Entry.{Entry}
+use Rattle.test_case_line.specs.declared.Malformed.{Malformed}
+use Rattle.test_case_line.specs.declared.kind.Kind.{Kind}
+use Rattle.test_case_line.specs.declared.kind.Kind.TheVariants.{State as StateWord, Memory, Page, Port, Duration, Length, Run}
+use Rattle.test_case_line.specs.Kinds.{kind_of}
+use Rattle.test_case_line.specs.Lent.{lent_of, words_of}
+use Rattle.test_case_line.specs.Lines.{entry_of, entry_by, line_of}
 use Rattle.test_case_line.specs.Fields.{place_of, with_word}
 use Rattle.test_case_line.specs.Texts.{case_line, time_line, remainder_line, mfs_line, entry_line}
 
@@ -25,25 +25,40 @@ s =
 
 -- opens the definitions of lines at once, and those of the state and of texts
 unfoldable lines : Unit {0}
-unfolding digit_of given word_of size_of limit_of entry_of line_of
+unfolding digit_of word_by word_of kind_of entry_of entry_by line_of
 lines = tt
 
 unfoldable texts : Unit {0}
 unfolding bytes_of place_of with_word marks marked mark_at marks_of with_marks layout unpacked packed digit hex leading decimal case_line time_line remainder_line mfs_line entry_line
 texts = tt
 
+-- the letter of a kind
+abbrev letter : Kind → ℕ
+letter StateWord = 83
+letter Memory = 77
+letter Page = 80
+letter Port = 79
+letter Duration = 68
+letter Length = 76
+letter Run = 71
+
 -- an entry's kind, number and word; 1 for a remark, 2 for neither
-abbrev parts : Line → List ℕ
-parts Remark = 1 ∷ []
-parts (Entry k n w) = k ∷ n ∷ w ∷ []
-parts Malformed = 2 ∷ []
+abbrev parts : Result (Option Entry) Malformed → List ℕ
+parts (Ok None) = 1 ∷ []
+parts (Ok (Some e)) = letter e.kind ∷ e.number ∷ e.word ∷ []
+parts (Err e) = 2 ∷ []
 
 pub rows : List Row
 unfolding machinery lines texts
 rows =
     -- lines::read: number and word exchanged; the letters A to F as 11 to 16
-    some (parts (line_of (77 ∷ 32 ∷ 48 ∷ 48 ∷ 49 ∷ 50 ∷ 32 ∷ 48 ∷ 48 ∷ 65 ∷ 66 ∷ 10 ∷ []) 11))
+    some (parts (line_of (77 ∷ 32 ∷ 48 ∷ 48 ∷ 49 ∷ 50 ∷ 32 ∷ 48 ∷ 48 ∷ 65 ∷ 66 ∷ [])))
     (77 ∷ 0x0012 ∷ 0x00AB ∷ []) (77 ∷ 0x00AB ∷ 0x0012 ∷ []) (77 ∷ 0x0012 ∷ 0x00BC ∷ [])
+    -- lines::read: the letter of a port read as that of a page register; as that of a word of the state
+    ∷ some (parts (line_of (79 ∷ 32 ∷ 48 ∷ 48 ∷ 49 ∷ 50 ∷ 32 ∷ 48 ∷ 48 ∷ 65 ∷ 66 ∷ [])))
+    (79 ∷ 0x0012 ∷ 0x00AB ∷ []) (80 ∷ 0x0012 ∷ 0x00AB ∷ []) (83 ∷ 0x0012 ∷ 0x00AB ∷ [])
+    -- kind::of: the page registers for the ports; the durations for them
+    ∷ some (words_of (lent_of 2) ∷ []) (1024 ∷ []) (512 ∷ []) (257 ∷ [])
     -- set::put: the word before; the word after
     ∷ some (set (5 ∷ 6 ∷ 7 ∷ []) 1 9) (5 ∷ 9 ∷ 7 ∷ []) (9 ∷ 6 ∷ 7 ∷ []) (5 ∷ 6 ∷ 9 ∷ [])
     -- set::state: PI set by the number of MK; SW set by the number of MK

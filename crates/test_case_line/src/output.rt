@@ -1,65 +1,77 @@
-// The text of a case, but for the report: its first and last lines, the lines of what it changed, and messages.
-ghost use Rattle.text.specs.Texts.{Text};
+// The text of a case, but for the report: its first and last lines, the lines of what it changed, and messages, each put behind a text. Each caller leaves room.
+ghost use Rattle.std.specs.Prelude.{◌≡◌, ◌++◌, ◌+◌, ◌≤◌};
+ghost use Rattle.arrayvec.specs.ArrayVec.{array_vec_len};
 ghost use Rattle.test_case_line.specs.Texts.{case_line, time_line, remainder_line, mfs_line, entry_line};
 
+use arrayvec::ArrayVec;
 use machine::State;
 use packed::marks;
-use text::{put, put_bytes, put_decimal, put_hex};
+use text::{put_bytes, put_decimal, put_hex};
 
-// A case's number and the number of the run's answer.
-pub fn case_line(number: u32, answer: u32, out: &mut [u8; 256]) -> usize
-    ensures { Text out.old (case_line number answer) out.new result }
+// A case's number and the number of the run's answer: at most 34 bytes.
+pub fn case_line<const N: usize>(out: &mut ArrayVec<u8, N>, number: u32, answer: u32)
+    requires { array_vec_len out.old + 34 ≤ N }
+    ensures text { out.new.items ≡ out.old.items ++ case_line number answer }
+    ensures short { array_vec_len out.new ≤ array_vec_len out.old + 34 }
 {
-    let at = put_bytes(out, 0, b"case ");
-    let at = put_decimal(out, at, number);
-    let at = put_bytes(out, at, b" answer ");
-    let at = put_decimal(out, at, answer);
-    put(out, at, b'\n')
+    put_bytes(out, b"case ");
+    put_decimal(out, number);
+    put_bytes(out, b" answer ");
+    put_decimal(out, answer);
+    out.push(b'\n');
 }
 
-// Timers, marks and counter.
-pub fn time_line(s: State, out: &mut [u8; 256]) -> usize
-    ensures { Text out.old (time_line s) out.new result }
+// Timers, marks and counter: at most 44 bytes.
+pub fn time_line<const N: usize>(out: &mut ArrayVec<u8, N>, s: State)
+    requires { array_vec_len out.old + 44 ≤ N }
+    ensures text { out.new.items ≡ out.old.items ++ time_line s }
+    ensures short { array_vec_len out.new ≤ array_vec_len out.old + 44 }
 {
-    let at = put_bytes(out, 0, b"ta ");
-    let at = put_hex(out, at, s.clock.ta);
-    let at = put_bytes(out, at, b" tb ");
-    let at = put_hex(out, at, s.clock.tb);
-    let at = put_bytes(out, at, b" marks ");
-    let at = put_hex(out, at, marks(s));
-    let at = put_bytes(out, at, b" count ");
-    let at = put_decimal(out, at, s.clock.count);
-    put(out, at, b'\n')
+    put_bytes(out, b"ta ");
+    put_hex(out, s.clock.ta);
+    put_bytes(out, b" tb ");
+    put_hex(out, s.clock.tb);
+    put_bytes(out, b" marks ");
+    put_hex(out, marks(s));
+    put_bytes(out, b" count ");
+    put_decimal(out, s.clock.count);
+    out.push(b'\n');
 }
 
-// The remainders of the timers.
-pub fn remainder_line(s: State, out: &mut [u8; 256]) -> usize
-    ensures { Text out.old (remainder_line s) out.new result }
+// The remainders of the timers: at most 33 bytes.
+pub fn remainder_line<const N: usize>(out: &mut ArrayVec<u8, N>, s: State)
+    requires { array_vec_len out.old + 33 ≤ N }
+    ensures text { out.new.items ≡ out.old.items ++ remainder_line s }
+    ensures short { array_vec_len out.new ≤ array_vec_len out.old + 33 }
 {
-    let at = put_bytes(out, 0, b"remainders ");
-    let at = put_decimal(out, at, s.clock.rema as u32);
-    let at = put(out, at, b' ');
-    let at = put_decimal(out, at, s.clock.remb as u32);
-    put(out, at, b'\n')
+    put_bytes(out, b"remainders ");
+    put_decimal(out, u32::from(s.clock.rema));
+    out.push(b' ');
+    put_decimal(out, u32::from(s.clock.remb));
+    out.push(b'\n');
 }
 
-// The memory fault status.
-pub fn mfs_line(s: State, out: &mut [u8; 256]) -> usize
-    ensures { Text out.old (mfs_line s) out.new result }
+// The memory fault status: 9 bytes.
+pub fn mfs_line<const N: usize>(out: &mut ArrayVec<u8, N>, s: State)
+    requires { array_vec_len out.old + 9 ≤ N }
+    ensures text { out.new.items ≡ out.old.items ++ mfs_line s }
+    ensures long { array_vec_len out.new ≡ array_vec_len out.old + 9 }
 {
-    let at = put_bytes(out, 0, b"mfs ");
-    let at = put_hex(out, at, s.core.faults.mfs);
-    put(out, at, b'\n')
+    put_bytes(out, b"mfs ");
+    put_hex(out, s.core.faults.mfs);
+    out.push(b'\n');
 }
 
-// An entry: its kind letter, its number and its word.
-pub fn entry_line(kind: u8, number: u16, word: u16, out: &mut [u8; 256]) -> usize
-    ensures { Text out.old (entry_line kind number word) out.new result }
+// An entry, its kind letter, its number and its word: 12 bytes.
+pub fn entry_line<const N: usize>(out: &mut ArrayVec<u8, N>, kind: u8, number: u16, word: u16)
+    requires { array_vec_len out.old + 12 ≤ N }
+    ensures text { out.new.items ≡ out.old.items ++ entry_line kind number word }
+    ensures long { array_vec_len out.new ≡ array_vec_len out.old + 12 }
 {
-    let at = put(out, 0, kind);
-    let at = put(out, at, b' ');
-    let at = put_hex(out, at, number);
-    let at = put(out, at, b' ');
-    let at = put_hex(out, at, word);
-    put(out, at, b'\n')
+    out.push(kind);
+    out.push(b' ');
+    put_hex(out, number);
+    out.push(b' ');
+    put_hex(out, word);
+    out.push(b'\n');
 }

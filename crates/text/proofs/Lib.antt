@@ -1,4 +1,5 @@
--- The laws of text after text in a buffer; known numbers, computed; wrong answers.
+-- The laws of text after text in a list of bytes; what std and this repository call decimal; known numbers, computed; wrong answers.
 pub mod WroteLaws
+pub mod DecimalLaws
 pub mod Rows
 pub mod Wrong

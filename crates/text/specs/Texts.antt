@@ -1,5 +1,5 @@
 -- Text in a buffer, and numbers as text, written and read. A text is the list of its bytes. Assumes nothing.
-use Rattle.std.specs.Prelude.{ℕ, ◌+◌, ◌*◌, ◌-◌, ◌/◌, ◌%◌, ◌≤◌, cond, List, [], ◌∷◌, ◌++◌, ◌≡◌, ltb, length, take, drop}
+use Rattle.std.specs.Prelude.{ℕ, ◌+◌, ◌*◌, ◌-◌, ◌/◌, ◌%◌, ◌≤◌, cond, List, [], ◌∷◌, ◌++◌, ◌≡◌, ltb, length, take, drop, Option, None, Some}
 use Prim.Native.Char.{code}
 use Prim.Native.String.{String, [] as []ₛ, ◌∷◌ as ◌∷ₛ◌}
 
@@ -50,21 +50,20 @@ numbered_line m n = m ++ (decimal n ++ (newline ∷ []))
 
 -- ---- numbers, read
 
--- the value of a hexadecimal digit, "0" to "9" or "A" to "F"; 16 for any other byte
-unfoldable pub digit_of : ℕ → ℕ
-digit_of b = cond (ltb b 48) 16 (cond (ltb b 58) (b - 48) (cond (ltb b 65) 16 (cond (ltb b 71) (b - 55) 16)))
+-- the value of a hexadecimal digit, "0" to "9" or "A" to "F"; none for any other byte
+unfoldable pub digit_of : ℕ → Option ℕ
+digit_of b = cond (ltb b 48) None (cond (ltb b 58) (Some (b - 48)) (cond (ltb b 65) None (cond (ltb b 71) (Some (b - 55)) None)))
 
--- a number unless a digit is none
-unfoldable pub given : ℕ → ℕ → ℕ
-given digit n = cond (ltb 15 digit) 65536 n
+-- the word of four digits; none where one of them is none
+unfoldable pub word_by : Option ℕ → Option ℕ → Option ℕ → Option ℕ → Option ℕ
+word_by None b c d = None
+word_by (Some a) None c d = None
+word_by (Some a) (Some b) None d = None
+word_by (Some a) (Some b) (Some c) None = None
+word_by (Some a) (Some b) (Some c) (Some d) = Some (a * 4096 + b * 256 + c * 16 + d)
 
--- the word of four digits; 65,536 where one of them is none
-unfoldable pub word_of : ℕ → ℕ → ℕ → ℕ → ℕ
-word_of a b c d =
-    given (digit_of a)
-    (given (digit_of b)
-    (given (digit_of c)
-    (given (digit_of d) (digit_of a * 4096 + digit_of b * 256 + digit_of c * 16 + digit_of d))))
+unfoldable pub word_of : ℕ → ℕ → ℕ → ℕ → Option ℕ
+word_of a b c d = word_by (digit_of a) (digit_of b) (digit_of c) (digit_of d)
 
 -- ---- what the code ensures
 

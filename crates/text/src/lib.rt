@@ -1,47 +1,25 @@
-// Text in a buffer of 256 bytes, and numbers as text: put there from a place on, by functions that return the place after it, and read (`read`).
+// Text in a vector of bytes that lies in place, and numbers as text: put behind what is there, and read (`read`).
 // Each caller leaves room for what is put.
 #![tactic(auto)]
 
-ghost use Rattle.std.specs.Prelude.{◌≡◌, [], ◌∷◌, ◌+◌, ◌<◌, ◌≤◌, length, set};
-ghost use Rattle.text.specs.Texts.{digit, hex, leading, decimal, numbered_line, Wrote, Text};
+ghost use Rattle.std.specs.Prelude.{◌≡◌, ◌++◌, ◌∷◌, ◌+◌, ◌<◌, ◌≤◌, length};
+ghost use Rattle.arrayvec.specs.ArrayVec.{array_vec_len};
+ghost use Rattle.text.specs.Texts.{digit, hex, decimal, numbered_line, Wrote, Text};
 
 pub mod read;
 
-fn store(bytes: &mut [u8], at: usize, byte: u8)
-    requires { at < length bytes.old }
-    ensures { bytes.new ≡ set bytes.old at byte }
-{
-    bytes[at] = byte;
-}
+use arrayvec::ArrayVec;
+use itoa::Buffer;
 
-pub fn put(out: &mut [u8; 256], at: usize, byte: u8) -> usize
-    requires { at < 256 }
-    ensures { (Wrote out.old at (byte ∷ []) out.new result) × (result ≡ at + 1) }
+// Bytes put behind those of a text.
+pub fn put_bytes<const N: usize>(out: &mut ArrayVec<u8, N>, bytes: &[u8])
+    requires { array_vec_len out.old + length bytes.now ≤ N }
+    ensures text { out.new.items ≡ out.old.items ++ bytes.now }
+    ensures long { array_vec_len out.new ≡ array_vec_len out.old + length bytes.now }
 {
-    store(out, at, byte);
-    at + 1
-}
-
-// Bytes put into a buffer of any length.
-pub fn copy(out: &mut [u8], at: usize, bytes: &[u8]) -> usize
-    requires { at + length bytes.now ≤ length out.old }
-    ensures { (Wrote out.old at bytes.now out.new result) × (result ≡ at + length bytes.now) }
-{
-    let mut to = at;
-    let mut n: usize = 0;
-    while n < bytes.len() {
-        out[to] = bytes[n];
-        to += 1;
-        n += 1;
+    for byte in bytes {
+        out.push(*byte);
     }
-    to
-}
-
-pub fn put_bytes(out: &mut [u8; 256], at: usize, bytes: &[u8]) -> usize
-    requires { at + length bytes.now ≤ 256 }
-    ensures { (Wrote out.old at bytes.now out.new result) × (result ≡ at + length bytes.now) }
-{
-    copy(out, at, bytes)
 }
 
 // A digit to the base sixteen.
@@ -55,51 +33,56 @@ pub fn digit(n: u16) -> u8
     (55 + n) as u8
 }
 
-// A word in hexadecimal: four digits.
-pub fn put_hex(out: &mut [u8; 256], at: usize, word: u16) -> usize
-    requires { at + 4 ≤ 256 }
-    ensures { (Wrote out.old at (hex word) out.new result) × (result ≡ at + 4) }
+// A word in hexadecimal: four digits. They are made here, since the library's `{:04X}` writes through a Result, and this function cannot fail.
+pub fn put_hex<const N: usize>(out: &mut ArrayVec<u8, N>, word: u16)
+    requires { array_vec_len out.old + 4 ≤ N }
+    ensures text { out.new.items ≡ out.old.items ++ hex word }
+    ensures long { array_vec_len out.new ≡ array_vec_len out.old + 4 }
 {
-    let at = put(out, at, digit(word / 4096));
-    let at = put(out, at, digit(word / 256 % 16));
-    let at = put(out, at, digit(word / 16 % 16));
-    put(out, at, digit(word % 16))
-}
-
-// The decimal digit of a unit, unless the number is below it.
-fn put_leading(out: &mut [u8; 256], at: usize, n: u32, unit: u32) -> usize
-    requires { (at < 256) × (0 < unit) }
-    ensures { (Wrote out.old at (leading n unit) out.new result) × (result ≤ at + 1) }
-{
-    if n < unit {
-        return at;
-    }
-    put(out, at, (48 + n / unit % 10) as u8)
+    out.push(digit(word / 4096));
+    out.push(digit(word / 256 % 16));
+    out.push(digit(word / 16 % 16));
+    out.push(digit(word % 16));
 }
 
 // A number in decimal: at most ten digits.
-pub fn put_decimal(out: &mut [u8; 256], at: usize, n: u32) -> usize
-    requires { at + 10 ≤ 256 }
-    ensures { (Wrote out.old at (decimal n) out.new result) × (result ≤ at + 10) }
+pub fn put_decimal<const N: usize>(out: &mut ArrayVec<u8, N>, n: u32)
+    requires { array_vec_len out.old + 10 ≤ N }
+    ensures text { out.new.items ≡ out.old.items ++ decimal n }
+    ensures short { array_vec_len out.new ≤ array_vec_len out.old + 10 }
 {
-    let at = put_leading(out, at, n, 1000000000);
-    let at = put_leading(out, at, n, 100000000);
-    let at = put_leading(out, at, n, 10000000);
-    let at = put_leading(out, at, n, 1000000);
-    let at = put_leading(out, at, n, 100000);
-    let at = put_leading(out, at, n, 10000);
-    let at = put_leading(out, at, n, 1000);
-    let at = put_leading(out, at, n, 100);
-    let at = put_leading(out, at, n, 10);
-    put(out, at, (48 + n % 10) as u8)
+    let mut digits = Buffer::new();
+    put_bytes(out, digits.format(n).as_bytes());
 }
 
-// A message of at most 200 bytes and a number, as a line at the start of the buffer.
-pub fn numbered_line(message: &[u8], number: u32, out: &mut [u8; 256]) -> usize
-    requires { length message.now ≤ 200 }
-    ensures { Text out.old (numbered_line message.now number) out.new result }
+// A message and a number, as a line.
+pub fn put_numbered_line<const N: usize>(out: &mut ArrayVec<u8, N>, message: &[u8], number: u32)
+    requires { array_vec_len out.old + length message.now + 11 ≤ N }
+    ensures text { out.new.items ≡ out.old.items ++ numbered_line message.now number }
+    ensures short { array_vec_len out.new ≤ array_vec_len out.old + length message.now + 11 }
 {
-    let at = put_bytes(out, 0, message);
-    let at = put_decimal(out, at, number);
-    put(out, at, b'\n')
+    put_bytes(out, message);
+    put_decimal(out, number);
+    out.push(b'\n');
+}
+
+// Bytes put at a place of a list of any length, whose other bytes stay; the place after them. The program `test_cases` puts its text straight into a caller's
+// 262,144 bytes so, of which `Text` promises that the others stay: a vector of that length would be filled with blanks for each of its cases.
+pub fn copy(out: &mut [u8], at: usize, bytes: &[u8]) -> usize
+    requires { at + length bytes.now ≤ length out.old }
+    ensures { (Wrote out.old at bytes.now out.new result) × (result ≡ at + length bytes.now) }
+{
+    let end = at + bytes.len();
+    out[at..end].copy_from_slice(bytes);
+    end
+}
+
+// A text put at the start of a list of bytes, whose other bytes stay; how many bytes it has.
+pub fn show<const N: usize>(text: &ArrayVec<u8, N>, out: &mut [u8]) -> usize
+    requires { array_vec_len text.now ≤ length out.old }
+    ensures { Text out.old text.now.items out.new result }
+{
+    let bytes = text.as_slice();
+    out[..bytes.len()].copy_from_slice(bytes);
+    bytes.len()
 }

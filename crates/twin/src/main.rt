@@ -5,6 +5,7 @@ use std::io;
 use stream::read_full;
 
 fn main(rt: HostRuntime) -> io::Result<()> {
+    // lists of their own, not parts of a struct, since `program::text_for` is lent them so
     let mut memory = [0u16; 16384];
     let mut pages = [0u16; 512];
     let mut ports = [0u16; 1024];

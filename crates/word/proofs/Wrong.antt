@@ -9,11 +9,11 @@ use Rattle.word.specs.Status.{status}
 
 pub rows : List Row
 rows =
-    -- compare::compare16: compared without a sign; equal, without the sign bit
+    -- compare::compare: at 16 bits, compared without a sign; equal, without the sign bit
     one (compared 16 0x8001 0x0001) 1 4 2
     -- compare::compare_limits: below the lower limit, as the order of the limits is not tested; above the upper limit
     ∷ one (limited 16 5 7 3) 8 1 4
-    -- compare::compare32: the lower halves compared with a sign; equal, by the upper halves alone
+    -- compare::compare: at 32 bits, the lower halves compared with a sign; equal, by the upper halves alone
     ∷ one (compared 32 0x0001_8000 0x0001_0001) 4 1 2
     -- condition::taken: C = 7 jumps only with a bit in common; C = 4 jumps only where CS is 4
     ∷ some (flag (jump_taken 7 8) ∷ flag (jump_taken 4 12) ∷ flag (jump_taken 3 4) ∷ []) (1 ∷ 1 ∷ 0 ∷ []) (0 ∷ 1 ∷ 0 ∷ []) (1 ∷ 0 ∷ 0 ∷ [])
@@ -25,9 +25,9 @@ rows =
     ∷ one (high_word 0x1234_ABCD) 0x1234 0xABCD 0x12
     -- pair::low: the upper half; the lower byte
     ∷ one (low_word 0x1234_ABCD) 0xABCD 0x1234 0xCD
-    -- status::status16: 8000 as positive; 8000 as zero
+    -- status::status: at 16 bits, 8000 as positive; 8000 as zero
     ∷ one (status 16 0x8000) 1 4 2
-    -- status::status32: negative, by the sign of the lower half; zero, by the upper half alone
+    -- status::status: at 32 bits, negative, by the sign of the lower half; zero, by the upper half alone
     ∷ one (status 32 0x0000_8000) 4 1 2
     ∷ []
 

@@ -2,21 +2,10 @@
 use Rattle.isa.specs.Mil1750.{context_of}
 use Rattle.machine.specs.State.{joined}
 use Rattle.machine.specs.Step.{stored}
-use Rattle.page.proofs.EachLaws.{words-length}
 use Rattle.page.proofs.SpanLaws.{words-read}
-use lib.ListN.{length}
-use mathlib.Core.Path.{refl, ap, ◌∙◌}
+use mathlib.Core.Path.{refl}
 use Rattle.block_words.proofs.block.Goals as goal
-
-pub read_span-requires : goal.read_span-requires
-read_span-requires c = (c.requires.0, c.group_of-group.ensures.1, c.requires.3)
-
-pub store_words-requires : goal.store_words-requires
-store_words-requires c = (c.requires.0, c.group_of-group.ensures.1, c.requires.1)
-
-pub rearrange-requires : goal.rearrange-requires
-rearrange-requires c = (c.requires.1, ap length (words-read _ _ _ _ _ _ _ _ refl c.read_span.ensures) ∙ words-length _ _ _ _ _ _)
 
 pub returns : goal.returns
 unfolding stored context_of
-returns c = let w = words-read _ _ _ _ _ _ _ _ refl c.read_span.ensures in record { processor-is = rw (← c.key_of-key.ensures.0, ← c.group_of-group.ensures.0, ← c.requires.2, ← w) c.rearrange.ensures; memory-is = rw (← c.key_of-key.ensures.0, ← c.group_of-group.ensures.0, ← c.requires.2, ← w) (c.store_words.ensures (context_of (joined c.args.core c.args.regs.now)) refl) }
+returns c = let w = words-read _ _ _ _ _ _ _ _ refl c.read_span.ensures in record { processor-is = rw (← c.key_of-key.ensures.0, ← c.group_of-group.ensures.0, ← c.requires.1, ← w) c.rearrange.ensures; memory-is = rw (← c.key_of-key.ensures.0, ← c.group_of-group.ensures.0, ← c.requires.1, ← w) (c.store_words.ensures (context_of (joined c.args.core c.args.regs.now)) refl) }

@@ -1,22 +1,21 @@
 -- The answers to the goals of `effect::apply`. Assumes nothing.
-use Rattle.effect.proofs.WorkLaws.{all_three}
 use Rattle.effect.specs.Work.{filled}
-use Rattle.isa.specs.Fields.{with_registers, with_register}
-use Rattle.std.proofs.Common.{refl}
+use Rattle.isa.specs.Fields.{with_registers}
+use Rattle.std.proofs.Common.{◌≡◌, ◌+◌, refl, arith}
 use Rattle.effect.proofs.apply.Goals as goal
 
-pub returns-then-e-eq0 : goal.returns-then-e-eq0
-unfolding filled with_registers with_register
-returns-then-e-eq0 c = rw c.if-e-eq0.true refl
+pub returns-in-Kept : goal.returns-in-Kept
+unfolding filled with_registers
+returns-in-Kept c = rw c.in-Kept.is refl
 
-pub returns-then-e-eq1 : goal.returns-then-e-eq1
-unfolding filled with_registers with_register
-returns-then-e-eq1 c = rw c.if-e-eq1.true refl
+pub returns-in-One : goal.returns-in-One
+unfolding filled with_registers
+returns-in-One c = rw c.in-One.is c.put.ensures
 
-pub returns-then-e-eq2 : goal.returns-then-e-eq2
-unfolding filled with_registers with_register
-returns-then-e-eq2 c = rw c.if-e-eq2.true refl
+pub returns-in-Two : goal.returns-in-Two
+unfolding filled with_registers
+returns-in-Two c = rw (c.in-Two.is, ← c.put-in-Two.ensures) c.put-in-Two-2.ensures
 
-pub returns : goal.returns
-unfolding filled with_registers with_register
-returns c = rw (all_three _ c.args.e.v0 c.args.e.v1 c.args.e.v2 c.if-e-eq0.false c.if-e-eq1.false c.if-e-eq2.false) refl
+pub returns-in-Three : goal.returns-in-Three
+unfolding filled with_registers
+returns-in-Three c = let e : c.in-Three.k + 1 + 1 ≡ c.in-Three.k + 2 = omega arith in rw (c.in-Three.is, e, ← c.put-in-Three.ensures, ← c.put-in-Three-2.ensures) c.put-in-Three-3.ensures

@@ -1,15 +1,16 @@
 -- The answers to the goals of `effect::float_faults`. Assumes nothing.
 use Rattle.isa.specs.Effects.{float_faults}
+use Rattle.std.proofs.Common.{rules}
 use Rattle.effect.proofs.float_faults.Goals as goal
 
-pub returns-then-overflow : goal.returns-then-overflow
+pub returns-in-Some-Overflow : goal.returns-in-Some-Overflow
 unfolding float_faults
-returns-then-overflow c = cc
+returns-in-Some-Overflow c = search rules
 
-pub returns-then-underflow : goal.returns-then-underflow
+pub returns-in-Some-Underflow : goal.returns-in-Some-Underflow
 unfolding float_faults
-returns-then-underflow c = cc
+returns-in-Some-Underflow c = search rules
 
-pub returns-else-underflow : goal.returns-else-underflow
+pub returns-in-None : goal.returns-in-None
 unfolding float_faults
-returns-else-underflow c = cc
+returns-in-None c = search rules

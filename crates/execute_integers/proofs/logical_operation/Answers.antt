@@ -17,7 +17,7 @@ returns-in-89 c = rw (c.in-89.is, ← c.field_a-a.ensures.0, ← c.get-in-89.ens
 
 pub returns-in-91 : goal.returns-in-91
 unfolding logical_operation
-returns-in-91 c = rw (c.in-91.is, ← c.accumulator_of-k.ensures.0, ← c.operand_of-o.ensures, ← c.get-in-91.ensures, ← c.compare16.ensures) (c.tested.ensures _ _)
+returns-in-91 c = rw (c.in-91.is, ← c.accumulator_of-k.ensures.0, ← c.operand_of-o.ensures, ← c.get-in-91.ensures, ← c.compare.ensures) (c.tested.ensures _ _)
 
 pub returns-in-92 : goal.returns-in-92
 unfolding logical_operation
@@ -25,7 +25,7 @@ returns-in-92 c = rw (c.in-92.is, ← c.field_a-a.ensures.0, ← c.get-in-92.ens
 
 pub returns-in-93 : goal.returns-in-93
 unfolding logical_operation
-returns-in-93 c = rw (c.in-93.is, ← c.field_a-a.ensures.0, ← c.pair_at.ensures, ← c.double_operand.ensures, ← c.compare32.ensures) (c.tested-in-93.ensures _ _)
+returns-in-93 c = rw (c.in-93.is, ← c.field_a-a.ensures.0, ← c.pair_at.ensures, ← c.double_operand.ensures, ← c.compare-in-93.ensures) (c.tested-in-93.ensures _ _)
 
 pub returns-in_default : goal.returns-in_default
 unfolding logical_operation

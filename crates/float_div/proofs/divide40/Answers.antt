@@ -26,25 +26,25 @@ pub returns-then-b-eq0 : goal.returns-then-b-eq0
 returns-then-b-eq0 c = c.largest.ensures ∙ ap (given 40) (quotient-by-zero 40 _ _ _ _ c.signs_differ-neg.ensures (magnitude-zero 40 _ c.if-b-eq0.true))
 
 pub returns-then-eb-ea : goal.returns-then-eb-ea
-returns-then-eb-ea c = c.largest-then-eb-ea.ensures ∙ ap (given 40) (quotient-over 40 _ _ _ _ c.signs_differ-neg.ensures (some c.args.b (omega arith) c.requires.2) c.if-eb-ea.true)
+returns-then-eb-ea c = c.largest-then-eb-ea.ensures ∙ ap (given 40) (quotient-over 40 _ _ _ _ c.signs_differ-neg.ensures (some c.args.b.mantissa.bits (omega arith) c.args.b.mantissa.held) c.if-eb-ea.true)
 
 pub returns-then-ea-eb : goal.returns-then-ea-eb
-returns-then-ea-eb c = c.zero.ensures ∙ zero-given true ∙ ap (given 40) (quotient-under 40 _ _ _ _ c.signs_differ-neg.ensures (some c.args.b (omega arith) c.requires.2) c.if-eb-ea.false c.if-ea-eb.true)
+returns-then-ea-eb c = c.zero.ensures ∙ zero-given true ∙ ap (given 40) (quotient-under 40 _ _ _ _ c.signs_differ-neg.ensures (some c.args.b.mantissa.bits (omega arith) c.args.b.mantissa.held) c.if-eb-ea.false c.if-ea-eb.true)
 
 pub overflow_add-n : goal.overflow_add-n
 overflow_add-n c = omega (arith, c.one_if.ensures, one_if-le (leb c.magnitude.result c.magnitude-2.result))
 
 pub returns-then-eb-n : goal.returns-then-eb-n
 returns-then-eb-n c =
-    c.largest-then-eb-n.ensures ∙ ap (given 40) (quotient-right 40 _ _ _ _ c.signs_differ-neg.ensures (some c.args.b (omega arith) c.requires.2) c.if-eb-ea.false c.if-ea-eb.false (rw (right c.args.ea c.args.a c.args.b _ _ _ c.magnitude.ensures c.magnitude-2.ensures c.one_if.ensures) at c.if-eb-n.true))
+    c.largest-then-eb-n.ensures ∙ ap (given 40) (quotient-right 40 _ _ _ _ c.signs_differ-neg.ensures (some c.args.b.mantissa.bits (omega arith) c.args.b.mantissa.held) c.if-eb-ea.false c.if-ea-eb.false (rw (right c.args.a.exponent c.args.a.mantissa.bits c.args.b.mantissa.bits _ _ _ c.magnitude.ensures c.magnitude-2.ensures c.one_if.ensures) at c.if-eb-n.true))
 
 pub returns-then-a-eq0 : goal.returns-then-a-eq0
 returns-then-a-eq0 c =
-    c.zero-then-a-eq0.ensures ∙ zero-given false ∙ ap (given 40) (quotient-of-zero 40 _ _ _ _ c.signs_differ-neg.ensures (some c.args.b (omega arith) c.requires.2) c.if-eb-ea.false c.if-ea-eb.false (rw (right c.args.ea c.args.a c.args.b _ _ _ c.magnitude.ensures c.magnitude-2.ensures c.one_if.ensures) at c.if-eb-n.false) (magnitude-zero 40 _ c.if-a-eq0.true))
+    c.zero-then-a-eq0.ensures ∙ zero-given false ∙ ap (given 40) (quotient-of-zero 40 _ _ _ _ c.signs_differ-neg.ensures (some c.args.b.mantissa.bits (omega arith) c.args.b.mantissa.held) c.if-eb-ea.false c.if-ea-eb.false (rw (right c.args.a.exponent c.args.a.mantissa.bits c.args.b.mantissa.bits _ _ _ c.magnitude.ensures c.magnitude-2.ensures c.one_if.ensures) at c.if-eb-n.false) (magnitude-zero 40 _ c.if-a-eq0.true))
 
 pub returns : goal.returns
 returns c =
     let q = c.quotient-q.result in
     c.finish.ensures ∙ ap (given 40)
-    (quotient-done 40 _ _ _ _ c.signs_differ-neg.ensures (some c.args.b (omega arith) c.requires.2) c.if-eb-ea.false c.if-ea-eb.false (rw (right c.args.ea c.args.a c.args.b _ _ _ c.magnitude.ensures c.magnitude-2.ensures c.one_if.ensures) at c.if-eb-n.false) q (tail 40 q) c.lead-x.ensures c.lead-y.ensures c.quotient-q.ensures.0
+    (quotient-done 40 _ _ _ _ c.signs_differ-neg.ensures (some c.args.b.mantissa.bits (omega arith) c.args.b.mantissa.held) c.if-eb-ea.false c.if-ea-eb.false (rw (right c.args.a.exponent c.args.a.mantissa.bits c.args.b.mantissa.bits _ _ _ c.magnitude.ensures c.magnitude-2.ensures c.one_if.ensures) at c.if-eb-n.false) q (tail 40 q) c.lead-x.ensures c.lead-y.ensures c.quotient-q.ensures.0
     (lit≤ tt) (tail-low 40 q (lit≤ tt) c.quotient-q.ensures.1 (search rules)) (tail-high 40 q (lit≤ tt) c.quotient-q.ensures.1 (search rules)))

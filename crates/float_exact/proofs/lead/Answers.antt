@@ -15,7 +15,7 @@ fits a m e p l = rw e (magnitude-fits 40 a (lit≤ tt) p l)
 
 pub overflow_sub-shift : goal.overflow_sub-shift
 overflow_sub-shift c =
-    let f = fits _ _ c.magnitude-m.ensures c.requires.0 c.requires.1 in
+    let f = fits _ _ c.magnitude-m.ensures c.requires c.args.a.held in
     omega (arith, leading-split 24 40 c.magnitude-m.result f.0 f.1)
 
 pub overflow_cast-value : goal.overflow_cast-value
@@ -23,10 +23,10 @@ overflow_cast-value c = omega (arith, leading_le 64 c.magnitude-m.result)
 
 pub overflow_shl-value : goal.overflow_shl-value
 overflow_shl-value c =
-    let f = fits _ _ c.magnitude-m.ensures c.requires.0 c.requires.1 in
+    let f = fits _ _ c.magnitude-m.ensures c.requires c.args.a.held in
     omega (arith, leading-split 24 40 c.magnitude-m.result f.0 f.1)
 
 pub returns : goal.returns
 returns c =
-    let f = fits _ _ c.magnitude-m.ensures c.requires.0 c.requires.1 in
+    let f = fits _ _ c.magnitude-m.ensures c.requires c.args.a.held in
     rw (← c.magnitude-m.ensures) (led 24 40 c.magnitude-m.result f.0 f.1)

@@ -7,4 +7,4 @@ pub returns-then-a-lt549755813888 : goal.returns-then-a-lt549755813888
 returns-then-a-lt549755813888 c = (parts_low 40 _ c.if-a-lt549755813888.true).size
 
 pub returns : goal.returns
-returns c = (parts-high 40 _ (lit≤ tt) c.if-a-lt549755813888.false c.requires).size
+returns c = (parts-high 40 _ (lit≤ tt) c.if-a-lt549755813888.false c.args.a.held).size

@@ -6,4 +6,4 @@ use Rattle.float_exact.proofs.signs_differ.Goals as goal
 
 pub returns : goal.returns
 unfolding signs_differ
-returns c = rw (first_bit 40 c.args.a, first_bit 40 c.args.b) refl
+returns c = rw (first_bit 40 c.args.a.bits, first_bit 40 c.args.b.bits) refl

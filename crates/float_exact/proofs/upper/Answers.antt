@@ -5,4 +5,4 @@ use Rattle.float_exact.proofs.upper.Goals as goal
 
 pub returns : goal.returns
 unfolding upper
-returns c = refl
+returns g c = refl

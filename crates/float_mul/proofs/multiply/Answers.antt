@@ -7,8 +7,10 @@ use Rattle.float_mul.proofs.ProductLaws.{product-upper}
 use Rattle.float_mul.proofs.multiply.Goals as goal
 
 pub returns : goal.returns
-returns c =
-    let x = c.args in
-    narrow 40 x.w (40 - x.w) x.a x.b (λ k z y. product_of k z x.ea y x.eb) (omega arith) (omega arith) c.requires.2 c.requires.3
-    (λ z y. product-upper x.w (40 - x.w) c.requires.0 z y x.ea x.eb) c.wider.ensures.0 c.wider-2.ensures.0
+returns g c =
+    let a = c.args.a in
+    let b = c.args.b in
+    let w = g.row.W in
+    narrow 40 w (40 - w) a.mantissa.bits b.mantissa.bits (λ k z y. product_of k z a.exponent y b.exponent) (let p = a.mantissa.width in omega arith) (omega arith) a.mantissa.held b.mantissa.held
+    (λ z y. product-upper w (40 - w) a.mantissa.width.0 z y a.exponent b.exponent) c.wider.ensures c.wider-2.ensures
     c.multiply40.ensures c.upper.ensures

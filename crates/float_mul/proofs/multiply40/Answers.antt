@@ -11,6 +11,7 @@ use Rattle.float_exact.proofs.StepLaws.{zero-given, tail-low, tail-high}
 use Rattle.float_exact.proofs.ExactLaws.{magnitude-zero}
 use Rattle.float_mul.proofs.ProductLaws.{product-over, product-under, product-zero, product-done}
 use Rattle.float_mul.proofs.multiply40.Goals as goal
+use Rattle.float_mul.proofs.multiply40.Goals.{then-a-eq0-via-then-a-eq0, then-a-eq0-via-else-a-eq0+then-b-eq0}
 
 pub returns-then-n-gt383 : goal.returns-then-n-gt383
 returns-then-n-gt383 c = c.largest.ensures ∙ ap (given 40) (product-over 40 _ _ _ _ c.signs_differ-neg.ensures (omega arith))
@@ -20,11 +21,9 @@ returns-then-n-lt128 c = c.zero.ensures ∙ zero-given true ∙ ap (given 40) (p
 
 pub returns-then-a-eq0 : goal.returns-then-a-eq0
 returns-then-a-eq0 c =
-    c.zero-nothing.ensures ∙ zero-given false ∙ ap (given 40) (product-zero 40 _ _ _ _ (omega arith) c.if-n-lt128.false (rw (magnitude-zero 40 _ c.if-a-eq0.true) (zero-mul _)))
-
-pub returns-then-b-eq0 : goal.returns-then-b-eq0
-returns-then-b-eq0 c =
-    c.zero-nothing.ensures ∙ zero-given false ∙ ap (given 40) (product-zero 40 _ _ _ _ (omega arith) c.if-n-lt128.false (rw (magnitude-zero 40 _ c.if-b-eq0.true) (mul-zero _)))
+    c.zero-then-a-eq0.ensures ∙ zero-given false ∙ ap (given 40)
+    (product-zero 40 _ _ _ _ (omega arith) c.if-n-lt128.false
+    (elim c.then-a-eq0.branch [ then-a-eq0-via-then-a-eq0 w ↦ rw (magnitude-zero 40 _ w.if-a-eq0.true) (zero-mul _) | then-a-eq0-via-else-a-eq0+then-b-eq0 w ↦ rw (magnitude-zero 40 _ w.if-b-eq0.true) (mul-zero _) ]))
 
 pub returns : goal.returns
 returns c =

@@ -1,27 +1,41 @@
 -- The answers to the goals of `image_load::write_body`. Assumes nothing.
+use Rattle.std.proofs.Common.{◌≡◌, sym, ap, ◌∙◌, arith}
+use Rattle.image.specs.Image.{kind_of}
 use Rattle.image_load.proofs.BodyLaws.{within-memory, within-pages, within-registers, within-control, to-memory, to-pages, to-registers, to-control}
 use Rattle.image_load.proofs.write_body.Goals as goal
 
 pub write_words-requires : goal.write_words-requires
-write_words-requires c = (within-memory _ _ c.requires.0 c.if-e-eq1.true, c.requires.2)
+write_words-requires c = (within-memory _ _ c.requires.2 (sym (c.in-Ok-Memory.ensures {u = tt}) ∙ ap kind_of c.in-Ok-Memory.field-0-is), c.requires.4)
 
-pub returns-then-e-eq1 : goal.returns-then-e-eq1
-returns-then-e-eq1 c = λ ports. to-memory _ _ _ _ _ _ _ c.if-e-eq1.true _ c.write_words.ensures
-
-pub write_words-requires-then-e-eq2 : goal.write_words-requires-then-e-eq2
-write_words-requires-then-e-eq2 c = (rw c.requires.1 (within-pages _ _ c.requires.0 c.if-e-eq1.false c.if-e-eq2.true), c.requires.2)
-
-pub returns-then-e-eq2 : goal.returns-then-e-eq2
-returns-then-e-eq2 c = λ ports. to-pages _ _ _ _ _ _ _ c.if-e-eq1.false c.if-e-eq2.true _ c.write_words-then-e-eq2.ensures
+pub write_words-requires-in-Ok-Pages : goal.write_words-requires-in-Ok-Pages
+write_words-requires-in-Ok-Pages c =
+    let k : 2 ≡ c.args.e.kind = ap kind_of (sym c.in-Ok-Pages.field-0-is) ∙ c.in-Ok-Pages.ensures {u = tt} in
+    (rw c.requires.3 (within-pages _ _ c.requires.2 (λ h. omega arith) (sym k)), c.requires.4)
 
 pub write_registers-requires : goal.write_registers-requires
-write_registers-requires c = (within-registers _ _ c.requires.0 c.if-e-eq1.false c.if-e-eq2.false c.if-e-eq3.true, c.requires.2)
+write_registers-requires c =
+    let k : 3 ≡ c.args.e.kind = ap kind_of (sym c.in-Ok-Registers.field-0-is) ∙ c.in-Ok-Registers.ensures {u = tt} in
+    (within-registers _ _ c.requires.2 (λ h. omega arith) (λ h. omega arith) (sym k), c.requires.4)
 
-pub returns-then-e-eq3 : goal.returns-then-e-eq3
-returns-then-e-eq3 c = λ ports. to-registers _ _ _ _ _ _ _ c.if-e-eq1.false c.if-e-eq2.false _ c.if-e-eq3.true c.write_registers.ensures
+pub write_control-requires : goal.write_control-requires
+write_control-requires c =
+    let k : 4 ≡ c.args.e.kind = ap kind_of (sym c.in-Ok-Control.field-0-is) ∙ c.in-Ok-Control.ensures {u = tt} in
+    (within-control _ _ c.requires.2 (λ h. omega arith) (λ h. omega arith) (λ h. omega arith), c.requires.4)
 
-pub write_control-core-requires : goal.write_control-core-requires
-write_control-core-requires c = (within-control _ _ c.requires.0 c.if-e-eq1.false c.if-e-eq2.false c.if-e-eq3.false, c.requires.2)
+pub returns-in-Ok-Memory : goal.returns-in-Ok-Memory
+returns-in-Ok-Memory c = λ ports. to-memory _ _ _ _ _ _ _ (sym (c.in-Ok-Memory.ensures {u = tt}) ∙ ap kind_of c.in-Ok-Memory.field-0-is) _ c.write_words.ensures
 
-pub returns : goal.returns
-returns c = λ ports. to-control _ _ _ _ _ _ _ c.if-e-eq1.false c.if-e-eq2.false c.if-e-eq3.false _ c.write_control-core.ensures
+pub returns-in-Ok-Pages : goal.returns-in-Ok-Pages
+returns-in-Ok-Pages c =
+    let k : 2 ≡ c.args.e.kind = ap kind_of (sym c.in-Ok-Pages.field-0-is) ∙ c.in-Ok-Pages.ensures {u = tt} in
+    λ ports. to-pages _ _ _ _ _ _ _ (λ h. omega arith) (sym k) _ c.write_words-in-Ok-Pages.ensures
+
+pub returns-in-Ok-Registers : goal.returns-in-Ok-Registers
+returns-in-Ok-Registers c =
+    let k : 3 ≡ c.args.e.kind = ap kind_of (sym c.in-Ok-Registers.field-0-is) ∙ c.in-Ok-Registers.ensures {u = tt} in
+    λ ports. to-registers _ _ _ _ _ _ _ (λ h. omega arith) (λ h. omega arith) _ (sym k) c.write_registers.ensures
+
+pub returns-in-Ok-Control : goal.returns-in-Ok-Control
+returns-in-Ok-Control c =
+    let k : 4 ≡ c.args.e.kind = ap kind_of (sym c.in-Ok-Control.field-0-is) ∙ c.in-Ok-Control.ensures {u = tt} in
+    λ ports. to-control _ _ _ _ _ _ _ (λ h. omega arith) (λ h. omega arith) (λ h. omega arith) _ c.write_control.ensures

@@ -1,39 +1,14 @@
 -- The answers to the goals of `image_load::write_words`. Assumes nothing.
+use Rattle.std.proofs.Common.{◌≡◌, ◌+◌, ◌-◌, ◌*◌, refl, sym, ◌∙◌, arith}
 use Rattle.image_load.proofs.BodyLaws.{words-none, words_step}
-use lib.ListN.{length-set}
-use mathlib.Core.Path.{refl, sym, ◌∙◌}
-use native.Mathlib.Omega.{arith}
 use Rattle.image_load.proofs.write_words.Goals as goal
 
-pub loop-left-init : goal.loop-left-init
-loop-left-init c = (refl, omega arith, omega arith, refl)
-
-pub word_at-requires : goal.word_at-requires
-word_at-requires c = omega arith
-
-pub offset_bounds-words-i : goal.offset_bounds-words-i
-offset_bounds-words-i c = omega arith
-
-pub bounds-words-i : goal.bounds-words-i
-bounds-words-i c = omega arith
-
-pub overflow_add-i : goal.overflow_add-i
-overflow_add-i c = omega arith
-
-pub overflow_add-from : goal.overflow_add-from
-overflow_add-from c = omega arith
-
-pub overflow_sub-left : goal.overflow_sub-left
-overflow_sub-left c = omega arith
-
-pub loop-left-smaller : goal.loop-left-smaller
-loop-left-smaller c = omega arith
-
-pub loop-left-preserved : goal.loop-left-preserved
-loop-left-preserved c = (simp length-set c.loop-left.invariant.0, omega arith, omega arith, c.loop-left.invariant.3 ∙ words_step _ _ _ _ _ _ c.loop-left-test.true c.word_at.ensures)
-
-pub shape_of-words : goal.shape_of-words
-shape_of-words c = c.loop-left.invariant.0
+pub loop-i-preserved : goal.loop-i-preserved
+loop-i-preserved c =
+    let e : c.args.start + c.loop-i.i + 1 ≡ c.args.start + (c.loop-i.i + 1) = omega arith in
+    let f : c.args.at + 2 * c.loop-i.i + 2 ≡ c.args.at + 2 * (c.loop-i.i + 1) = omega arith in
+    let g : c.args.n - c.loop-i.i - 1 ≡ c.args.n - (c.loop-i.i + 1) = omega arith in
+    c.loop-i.invariant ∙ words_step _ _ _ _ (c.args.n - c.loop-i.i) _ (omega arith) c.word_at.ensures ∙ rw (e, f, g) refl
 
 pub returns : goal.returns
-returns c = sym (c.loop-left.invariant.3 ∙ words-none _ _ _ _ _ c.loop-left-test.false)
+returns c = sym (c.loop-i.invariant ∙ words-none _ _ _ _ (c.args.n - c.loop-i.i) (omega arith))

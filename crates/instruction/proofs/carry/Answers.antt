@@ -7,22 +7,22 @@ use native.Mathlib.Omega.{arith}
 use Rattle.instruction.proofs.carry.Goals as goal
 
 pub carry_fast-requires : goal.carry_fast-requires
-carry_fast-requires c = (c.requires.0, c.requires.2, c.requires.3, number-least c.args.n.form c.args.number c.requires.3 (search rules), omega arith)
+carry_fast-requires c = (c.requires.0, c.requires.1, number-least c.args.n.form c.args.number c.requires.1 (search rules), omega arith)
 
 pub command-requires : goal.command-requires
-command-requires c = (c.requires.0, c.requires.1, (number-path c.args.n.form c.args.number c.requires.3 (search rules) (omega arith) ∙ omega arith))
+command-requires c = (number-path c.args.n.form c.args.number c.requires.1 (search rules) (omega arith) ∙ omega arith)
 
 pub executive-requires : goal.executive-requires
-executive-requires c = (c.requires.0, (number-path c.args.n.form c.args.number c.requires.3 (search rules) (omega arith) ∙ omega arith))
+executive-requires c = (number-path c.args.n.form c.args.number c.requires.1 (search rules) (omega arith) ∙ omega arith)
 
 pub load-requires : goal.load-requires
-load-requires c = (c.requires.0, c.requires.2, (number-path c.args.n.form c.args.number c.requires.3 (search rules) (omega arith) ∙ omega arith), c.requires.3)
+load-requires c = (c.requires.0, (number-path c.args.n.form c.args.number c.requires.1 (search rules) (omega arith) ∙ omega arith), c.requires.1)
 
 pub carry_block-requires : goal.carry_block-requires
-carry_block-requires c = (c.requires.0, on-block c.args.n.form _ refl (number-block c.args.n.form c.args.number c.requires.3 (search rules) (omega arith) (omega arith)), c.requires.2)
+carry_block-requires c = (on-block c.args.n.form _ refl (number-block c.args.n.form c.args.number c.requires.1 (search rules) (omega arith) (omega arith)), c.requires.0)
 
 pub carry_ordinary-requires : goal.carry_ordinary-requires
-carry_ordinary-requires c = (c.requires.0, c.requires.2, c.requires.3, off-block c.args.n.form _ refl (λ z. let y = (number-rest c.args.n.form c.args.number c.requires.3 (search rules) (omega arith)).1 in omega (arith, y, z)), (number-rest c.args.n.form c.args.number c.requires.3 (search rules) (omega arith)).0)
+carry_ordinary-requires c = (c.requires.0, c.requires.1, off-block c.args.n.form _ refl (λ z. let y = (number-rest c.args.n.form c.args.number c.requires.1 (search rules) (omega arith)).1 in omega (arith, y, z)), (number-rest c.args.n.form c.args.number c.requires.1 (search rules) (omega arith)).0)
 
 pub returns-in-0-to-50331647 : goal.returns-in-0-to-50331647
 returns-in-0-to-50331647 c = c.carry_fast.ensures c.args.ports.now

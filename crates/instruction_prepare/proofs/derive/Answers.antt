@@ -5,11 +5,11 @@ use borrow.Author.Tests.{eq-eqb, ne_eqb}
 use Rattle.instruction_prepare.proofs.derive.Goals as goal
 
 pub read_word-got-requires : goal.read_word-got-requires
-read_word-got-requires c = (c.requires.0, c.requires.1.group-small)
+read_word-got-requires c = c.requires.group-small
 
 pub returns-then-form-eq-I : goal.returns-then-form-eq-I
 unfolding derived mil1750
-returns-then-form-eq-I c = rw (eq-eqb _ _ c.if-form-eq-I.true, ← c.derive-a.ensures, ← c.requires.1.key-is, ← c.requires.1.group-is, ← c.read_word-got.ensures) c.redirect.ensures
+returns-then-form-eq-I c = rw (eq-eqb _ _ c.if-form-eq-I.true, ← c.derive-a.ensures, ← c.requires.key-is, ← c.requires.group-is, ← c.read_word-got.ensures) c.redirect.ensures
 
 pub returns : goal.returns
 unfolding derived mil1750

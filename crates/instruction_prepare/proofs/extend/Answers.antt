@@ -1,4 +1,5 @@
 -- The answers to the goals of `instruction_prepare::extend`. Assumes nothing.
+use Rattle.std.proofs.Common.{Err, ap}
 use Rattle.instruction_prepare.proofs.PrepareLaws.{granted-second}
 use Rattle.machine.specs.Instructions.{extended}
 use Rattle.machine.specs.State.{advanced}
@@ -6,12 +7,12 @@ use mathlib.Core.Path.{refl}
 use Rattle.instruction_prepare.proofs.extend.Goals as goal
 
 pub second_word-second-requires : goal.second_word-second-requires
-second_word-second-requires c = (c.requires.0, c.requires.1.group-small, c.requires.2)
+second_word-second-requires c = (c.requires.0.group-small, c.requires.1)
 
-pub returns-in-Word : goal.returns-in-Word
+pub returns-in-Ok : goal.returns-in-Ok
 unfolding extended advanced
-returns-in-Word c = rw (granted-second _ _ _ _ _ _, ← c.requires.1.key-is, ← c.requires.1.group-is, ← c.second_word-second.ensures, c.in-Word.is, c.requires.1.key-is, c.requires.1.group-is) c.derive.ensures
+returns-in-Ok c = rw (granted-second _ _ _ _ _ _, ← c.requires.0.key-is, ← c.requires.0.group-is, ← c.second_word-second.ensures, c.in-Ok.is, c.requires.0.key-is, c.requires.0.group-is) c.derive.ensures
 
-pub returns-in-Missed : goal.returns-in-Missed
+pub returns-in-Err : goal.returns-in-Err
 unfolding extended advanced
-returns-in-Missed c = rw (granted-second _ _ _ _ _ _, ← c.requires.1.key-is, ← c.requires.1.group-is, ← c.second_word-second.ensures, c.in-Missed.is, ← c.advance.ensures) refl
+returns-in-Err c = rw (granted-second _ _ _ _ _ _, ← c.requires.0.key-is, ← c.requires.0.group-is, ← c.second_word-second.ensures, c.in-Err.is, ← c.advance.ensures) (ap Err c.denied.ensures)

@@ -14,15 +14,15 @@ unfolding got_at
 returns-then-ic-eq4095 c = rw (eq-eqb _ _ c.if-form-eq2.true, ← c.advance.ensures) c.read_word.ensures
 
 pub overflow_add-next : goal.overflow_add-next
-overflow_add-next c = omega (arith, located-inside _ _ _ _ _ _ _ _ (sym c.requires.2) refl)
+overflow_add-next c = omega (arith, located-inside _ _ _ _ _ _ _ _ (sym c.requires.1) refl)
 
 pub returns-then-next-memory : goal.returns-then-next-memory
 unfolding got_at
-returns-then-next-memory c = rw (eq-eqb _ _ c.if-form-eq2.true, lookup-next _ _ _ _ _ c.args.ic (omega arith) _ c.requires.2, lt-ltb (c.args.at + 1) (length c.args.memory.now) (omega arith)) refl
+returns-then-next-memory c = rw (eq-eqb _ _ c.if-form-eq2.true, lookup-next _ _ _ _ _ c.args.ic (omega arith) _ c.requires.1, lt-ltb (c.args.at + 1) (length c.args.memory.now) (omega arith)) refl
 
 pub returns-then-form-eq2 : goal.returns-then-form-eq2
 unfolding got_at
-returns-then-form-eq2 c = rw (eq-eqb _ _ c.if-form-eq2.true, lookup-next _ _ _ _ _ c.args.ic (omega arith) _ c.requires.2, le-ltb (c.args.at + 1) (length c.args.memory.now) (omega arith), ← c.refuse.ensures) refl
+returns-then-form-eq2 c = rw (eq-eqb _ _ c.if-form-eq2.true, lookup-next _ _ _ _ _ c.args.ic (omega arith) _ c.requires.1, le-ltb (c.args.at + 1) (length c.args.memory.now) (omega arith), ← c.refuse.ensures) refl
 
 pub returns : goal.returns
 unfolding got_at

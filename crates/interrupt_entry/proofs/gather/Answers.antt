@@ -2,10 +2,10 @@
 use Rattle.machine.specs.Entries.{stored_after}
 use Rattle.interrupt_entry.proofs.gather.Goals as goal
 
-pub returns-in-Clear : goal.returns-in-Clear
+pub returns-in-Ok : goal.returns-in-Ok
 unfolding stored_after
-returns-in-Clear c = cc
+returns-in-Ok c = cc
 
-pub returns-in-Fault : goal.returns-in-Fault
+pub returns-in-Err : goal.returns-in-Err
 unfolding stored_after
-returns-in-Fault c = cc
+returns-in-Err c = cc

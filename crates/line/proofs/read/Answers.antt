@@ -1,20 +1,38 @@
 -- The answers to the goals of `line::read`. Assumes nothing.
-use Rattle.line.proofs.CodeLaws.{name-lacks, read_none, read_whole, read_more}
-use lib.Seq.{length-take-le}
-use mathlib.Core.Path.{sym, ◌∙◌}
+use Rattle.std.proofs.Common.{rules, arith, sym, ap, ◌∙◌}
+use Rattle.line_operand.specs.declared.Place.TheVariants.{Second}
+use Rattle.line_operand.specs.Shapes.{covers}
+use Rattle.line.specs.Lines.{words_from}
+use Rattle.line.proofs.CodeLaws.{name-lacks, read_none, reads_on, reads-end, finished-empty, finished-more, refused-more, read_steps}
 use Rattle.line.proofs.read.Goals as goal
 
-pub slice_bounds-by_name-end : goal.slice_bounds-by_name-end
-slice_bounds-by_name-end c = sym (length-take-le c.find-end.result c.args.line.now c.find-end.ensures.high)
+pub by_name-requires : goal.by_name-requires
+by_name-requires c = rw c.cut.ensures.head (name-lacks c.args.line.now)
 
-pub by_name-entry-requires : goal.by_name-entry-requires
-by_name-entry-requires c = name-lacks c.args.line.now c.find-end.result c.find-end.ensures
+pub returns-in_err-entry : goal.returns-in_err-entry
+returns-in_err-entry c = rw (read_none c.args.line.now (rw (← c.cut.ensures.head) (search rules))) (search rules)
 
-pub returns-then-entry-eq0 : goal.returns-then-entry-eq0
-returns-then-entry-eq0 c = read_none c.args.line.now c.find-end.result c.find-end.ensures c.by_name-entry.result c.by_name-entry.ensures c.if-entry-eq0.true
+pub loop-shape-preserved : goal.loop-shape-preserved
+loop-shape-preserved c = record {
+  rest =
+      reads_on c.shapes-shapes.result c.loop-shape.shape-index _ _ _ _ _ _ (search rules) c.loop-shape.invariant.rest c.step-c.ensures.sum c.step-c.ensures.rest;
+  small = omega (arith, c.step-c.ensures.small, c.loop-shape.invariant.small);
+}
 
-pub returns-then-at-line : goal.returns-then-at-line
-returns-then-at-line c = c.words_from.ensures ∙ rw c.two_words.ensures (read_whole c.args.line.now c.find-end.result c.find-end.ensures c.by_name-entry.result c.by_name-entry.ensures c.slots-s.result _ _ _ _ c.step-t.result.at c.step-t-2.result.at c.step-t-3.result.at c.if-entry-eq0.false c.slots-s.ensures c.base.ensures c.step-t.ensures.0 c.step-t.ensures.1 c.step-t-2.ensures.0 c.step-t-2.ensures.1 c.step-t-3.ensures.0 c.step-t-3.ensures.1 c.if-at-line.true)
+pub returns-then-not-is_empty : goal.returns-then-not-is_empty
+returns-then-not-is_empty c =
+    let ss = c.shapes-shapes.result in
+    let f = reads-end ss c.loop-shape.shape-index _ _ c.loop-shape.c.rest.now (search rules) c.loop-shape.invariant.rest in
+    let m = finished-more c.loop-shape.c.sum c.loop-shape.c.rest.now (search rules) in
+    sym (refused-more (covers ss Second))
+    ∙ ap (words_from (covers ss Second)) (sym m)
+    ∙ read_steps c.args.line.now c.in_ok-entry.entry ss _ _ _ (rw (← c.cut.ensures.head) (search rules)) c.shapes-shapes.ensures c.cut.ensures.rest f
 
 pub returns : goal.returns
-returns c = read_more c.args.line.now c.find-end.result c.find-end.ensures c.by_name-entry.result c.by_name-entry.ensures c.slots-s.result _ _ _ _ c.step-t.result.at c.step-t-2.result.at c.step-t-3.result.at c.if-entry-eq0.false c.slots-s.ensures c.base.ensures c.step-t.ensures.0 c.step-t.ensures.1 c.step-t-2.ensures.0 c.step-t-2.ensures.1 c.step-t-3.ensures.0 c.step-t-3.ensures.1 c.if-at-line.false c.step-t-3.ensures.2
+returns c =
+    let ss = c.shapes-shapes.result in
+    let f = reads-end ss c.loop-shape.shape-index _ _ c.loop-shape.c.rest.now (search rules) c.loop-shape.invariant.rest in
+    let m = finished-empty c.loop-shape.c.sum c.loop-shape.c.rest.now (search rules) in
+    c.words_from.ensures
+    ∙ rw c.two_words.ensures (ap (words_from (covers ss Second)) (sym m))
+    ∙ read_steps c.args.line.now c.in_ok-entry.entry ss _ _ _ (rw (← c.cut.ensures.head) (search rules)) c.shapes-shapes.ensures c.cut.ensures.rest f

@@ -1,16 +1,19 @@
 -- The answers to the goals of `operand_words::gather_third`. Assumes nothing.
-use Rattle.operand_words.specs.Gathers.{from_third, with_word}
-use Rattle.std.proofs.Common.{le-ltb, lt-ltb}
+use Rattle.std.proofs.Common.{Err, refl, ap, ◌∙◌, le-ltb, lt-ltb}
+use Rattle.std.proofs.lemmas.Result.{err_from_is_err_and}
+use Rattle.operand_words.specs.Gathers.{with_word, from_third}
 use Rattle.operand_words.proofs.gather_third.Goals as goal
 
 pub returns-then-k-le2 : goal.returns-then-k-le2
-unfolding from_third with_word
-returns-then-k-le2 c = rw (le-ltb _ _ c.if-k-le2.true) c.complete.ensures
+unfolding from_third
+returns-then-k-le2 c = rw (le-ltb _ _ c.if-k-le2.true) refl
 
-pub returns-in-Word : goal.returns-in-Word
+pub returns-in_err-z : goal.returns-in_err-z
 unfolding from_third with_word
-returns-in-Word c = rw (lt-ltb _ _ c.if-k-le2.false, ← c.read_word-got.ensures, c.in-Word.is) c.complete-in-Word.ensures
+returns-in_err-z c =
+    let p = err_from_is_err_and c.from_residual.result c.from_residual.ensures.1 in
+    p.1 ∙ ap Err p.2 ∙ rw (lt-ltb _ _ c.if-k-le2.false, ← c.read_word.ensures, c.in_err-z.was) refl
 
-pub returns-in-Missed : goal.returns-in-Missed
+pub returns : goal.returns
 unfolding from_third with_word
-returns-in-Missed c = rw (lt-ltb _ _ c.if-k-le2.false, ← c.read_word-got.ensures, c.in-Missed.is) c.denied.ensures
+returns c = rw (lt-ltb _ _ c.if-k-le2.false, ← c.read_word.ensures, c.in_ok-z.was) refl

@@ -1,14 +1,20 @@
 -- The answers to the goals of `program::run_and_report`. Assumes nothing.
+use Rattle.std.proofs.Common.{refl}
+use borrow.Author.Tests.{ne_eqb}
+use Rattle.machine.specs.Runs.{number_of}
+use Rattle.machine.proofs.RunLaws.{number-refused}
 use Rattle.program.proofs.PrintedLaws.{holds-became}
 use Rattle.program.specs.Printed.{unless, ran_text}
-use borrow.Author.Tests.{eq-eqb, ne_eqb}
-use mathlib.Core.Path.{refl}
 use Rattle.program.proofs.run_and_report.Goals as goal
 
-pub returns-then-refused-ne0 : goal.returns-then-refused-ne0
-unfolding unless ran_text
-returns-then-refused-ne0 c = (rw (← c.run-ran.ensures.0, ← c.number-refused.ensures, ne_eqb _ _ c.if-refused-ne0.true) c.refusal.ensures, holds-became _ _ c.run-ran.ensures.1 refl)
+pub returns-in-Ok : goal.returns-in-Ok
+unfolding unless ran_text number_of
+returns-in-Ok c =
+    let e = c.in-Ok.ensures {u = tt} in
+    (rw (← e.0, ← e.1.state-is) c.report.ensures, holds-became _ _ e.1 refl)
 
-pub returns : goal.returns
+pub returns-in-Err : goal.returns-in-Err
 unfolding unless ran_text
-returns c = (rw (← c.run-ran.ensures.0, ← c.number-refused.ensures, eq-eqb _ _ c.if-refused-ne0.false, ← c.run-ran.ensures.1.state-is) c.report.ensures, holds-became _ _ c.run-ran.ensures.1 refl)
+returns-in-Err c =
+    let e = c.in-Err.ensures {u = tt} in
+    (rw (← e.0, ne_eqb _ _ (number-refused c.in-Err.e), ← c.number.ensures, ← c.from.ensures) c.refusal.ensures, holds-became _ _ e.1 refl)

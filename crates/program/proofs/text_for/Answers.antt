@@ -1,7 +1,7 @@
 -- The answers to the goals of `program::text_for`. Assumes nothing.
-use Rattle.std.proofs.Common.{length, ◌<◌, ◌≤◌}
+use Rattle.std.proofs.Common.{length, ◌<◌, ◌≤◌, ◌≡◌, refl, arith}
+use Rattle.image.proofs.SoundLaws.{number-refused}
 use Rattle.program.proofs.PrintedLaws.{holds-own, holds-lists, too_long, too-long-left, refused, refused-left, accepted, accepted-left, number_is, machine-is, kept}
-use native.Mathlib.Omega.{arith}
 use Rattle.program.proofs.text_for.Goals as goal
 
 pub returns-then-input-gt32768 : goal.returns-then-input-gt32768
@@ -9,12 +9,18 @@ returns-then-input-gt32768 c =
     let h : 32768 < length c.args.input.now = omega arith in
     (rw (too_long _ h) c.refusal.ensures, λ s. holds-own _ _ (too-long-left _ _ h))
 
-pub returns-then-refused-ne0 : goal.returns-then-refused-ne0
-returns-then-refused-ne0 c =
+pub returns-in-Ok : goal.returns-in-Ok
+returns-in-Ok c =
     let h : length c.args.input.now ≤ 32768 = omega arith in
-    (rw (refused _ _ h (number_is _ _ (omega (arith, c.load-arg-1.given)) (omega (arith, c.load-arg-2-1.given)) (omega (arith, c.load-arg-3-1.given)) _ _ c.number-refused.ensures c.load-loaded.ensures.answer-is) c.if-refused-ne0.true) c.refusal-then-refused-ne0.ensures, λ s. rw (refused-left _ _ _ h (number_is _ _ (omega (arith, c.load-arg-1.given)) (omega (arith, c.load-arg-2-1.given)) (omega (arith, c.load-arg-3-1.given)) _ _ c.number-refused.ensures c.load-loaded.ensures.answer-is) c.if-refused-ne0.true) (holds-lists (kept _ _ (omega (arith, c.load-arg-1.given)) (omega (arith, c.load-arg-2-1.given)) (omega (arith, c.load-arg-3-1.given)) _ _ _ _ _ _ c.number-refused.ensures c.if-refused-ne0.true c.load-loaded.ensures)))
+    let e = c.in-Ok.ensures {u = tt} in
+    let i = number_is _ _ (omega (arith, c.load-arg-1.given)) (omega (arith, c.load-arg-2-1.given)) (omega (arith, c.load-arg-3-1.given)) e in
+    let k = machine-is _ _ (omega (arith, c.load-arg-1.given)) (omega (arith, c.load-arg-2-1.given)) (omega (arith, c.load-arg-3-1.given)) e in
+    (rw (accepted _ _ h i refl, ← k) c.run_and_report.ensures.0, λ s. rw (accepted-left _ _ _ h i refl, ← k) c.run_and_report.ensures.1)
 
-pub returns : goal.returns
-returns c =
+pub returns-in-Err : goal.returns-in-Err
+returns-in-Err c =
     let h : length c.args.input.now ≤ 32768 = omega arith in
-    (rw (accepted _ _ h (number_is _ _ (omega (arith, c.load-arg-1.given)) (omega (arith, c.load-arg-2-1.given)) (omega (arith, c.load-arg-3-1.given)) _ _ c.number-refused.ensures c.load-loaded.ensures.answer-is) c.if-refused-ne0.false, ← machine-is _ _ (omega (arith, c.load-arg-1.given)) (omega (arith, c.load-arg-2-1.given)) (omega (arith, c.load-arg-3-1.given)) _ _ _ _ _ _ c.number-refused.ensures c.if-refused-ne0.false c.load-loaded.ensures) c.run_and_report.ensures.0, λ s. rw (accepted-left _ _ _ h (number_is _ _ (omega (arith, c.load-arg-1.given)) (omega (arith, c.load-arg-2-1.given)) (omega (arith, c.load-arg-3-1.given)) _ _ c.number-refused.ensures c.load-loaded.ensures.answer-is) c.if-refused-ne0.false, ← machine-is _ _ (omega (arith, c.load-arg-1.given)) (omega (arith, c.load-arg-2-1.given)) (omega (arith, c.load-arg-3-1.given)) _ _ _ _ _ _ c.number-refused.ensures c.if-refused-ne0.false c.load-loaded.ensures) c.run_and_report.ensures.1)
+    let e = c.in-Err.ensures {u = tt} in
+    let i = number_is _ _ (omega (arith, c.load-arg-1.given)) (omega (arith, c.load-arg-2-1.given)) (omega (arith, c.load-arg-3-1.given)) e in
+    let k = kept _ _ (omega (arith, c.load-arg-1.given)) (omega (arith, c.load-arg-2-1.given)) (omega (arith, c.load-arg-3-1.given)) e in
+    (rw (refused _ _ h i (number-refused _), ← c.number.ensures, ← c.from.ensures) c.refusal-in-Err.ensures, λ s. rw (refused-left _ _ _ h i (number-refused _)) (holds-lists k))

@@ -1,9 +1,8 @@
 -- The answers to the goals of `report::put_control`. Assumes nothing.
+use Rattle.std.proofs.Common.{append_assoc}
 use Rattle.report.specs.Report.{control_line}
-use Rattle.text.proofs.WroteLaws.{then}
-use native.Mathlib.Omega.{arith}
 use Rattle.report.proofs.put_control.Goals as goal
 
-pub returns : goal.returns
+pub returns-clause-text : goal.returns-clause-text
 unfolding control_line
-returns c = (then c.put_named-at.ensures.0 (then c.put_named-at-2.ensures.0 (then c.put_named-at-3.ensures.0 (then c.put_named-at-4.ensures.0 c.put_named.ensures.0))), omega arith)
+returns-clause-text g c = rw (c.put_named-5.ensures.text, c.put_named-4.ensures.text, c.put_named-3.ensures.text, c.put_named-2.ensures.text, c.put_named.ensures.text) (simp append_assoc)

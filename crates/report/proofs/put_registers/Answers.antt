@@ -1,34 +1,24 @@
 -- The answers to the goals of `report::put_registers`. Assumes nothing.
-use Rattle.report.proofs.RegisterLaws.{registers-more, registers-all}
+use Rattle.std.proofs.Common.{◌≡◌, ℕ, ◌+◌, ◌<◌, List, ◌∷◌, ◌++◌, take, drop, length, rules, arith, refl, ◌∙◌, append-nil, append_assoc, add-one, get_or, get_or-take, get_or-drop, length-take}
+use Rattle.text.specs.Texts.{blank, hex}
 use Rattle.report.specs.Report.{registers}
-use Rattle.text.proofs.WroteLaws.{wrote_none}
-use native.Mathlib.Omega.{arith}
 use Rattle.report.proofs.put_registers.Goals as goal
 
-pub loop-n-init : goal.loop-n-init
+-- one register more, which is an element of a part of the list
+more : (regs : List ℕ) (first m n : ℕ) → n < length (take m (drop first regs)) → registers regs first (n + 1) ≡ registers regs first n ++ (blank ∷ hex (get_or (take m (drop first regs)) n 0))
 unfolding registers
-loop-n-init c = (omega arith, wrote_none _ _, omega arith)
+more regs first m n h =
+    let k : get_or (take m (drop first regs)) n 0 ≡ get_or regs (first + n) 0 = get_or-take m (drop first regs) n 0 (omega (arith, length-take m (drop first regs))) ∙ get_or-drop first regs n 0 in
+    rw (add-one, k) refl
 
-pub overflow_add-first : goal.overflow_add-first
-overflow_add-first c = omega arith
+pub loop-word-init : goal.loop-word-init
+unfolding registers
+loop-word-init g c = search (rules, append-nil)
 
-pub offset_bounds-regs-first : goal.offset_bounds-regs-first
-offset_bounds-regs-first c = omega arith
-
-pub bounds-regs-first : goal.bounds-regs-first
-bounds-regs-first c = omega arith
-
-pub put_register-to-requires : goal.put_register-to-requires
-put_register-to-requires c = omega arith
-
-pub overflow_add-n : goal.overflow_add-n
-overflow_add-n c = omega arith
-
-pub loop-n-smaller : goal.loop-n-smaller
-loop-n-smaller c = omega arith
-
-pub loop-n-preserved : goal.loop-n-preserved
-loop-n-preserved c = (omega arith, registers-more _ _ _ c.loop-n.invariant.1 c.put_register-to.ensures.0, omega arith)
-
-pub returns : goal.returns
-returns c = (registers-all _ _ c.loop-n.n (omega arith) c.loop-n.invariant.1, omega arith)
+pub loop-word-preserved : goal.loop-word-preserved
+loop-word-preserved g c = record {
+  text =
+      rw (c.put_hex.ensures.text, c.push.ensures.items, c.loop-word.invariant.text, more c.args.regs.now c.args.first _ c.loop-word.word-index c.loop-word-test.true)
+      (simp append_assoc);
+  long = omega arith;
+}

@@ -1,9 +1,8 @@
 -- The answers to the goals of `report::put_steps`. Assumes nothing.
+use Rattle.std.proofs.Common.{append_assoc}
 use Rattle.report.specs.Report.{steps_line}
-use Rattle.text.proofs.WroteLaws.{then}
-use native.Mathlib.Omega.{arith}
 use Rattle.report.proofs.put_steps.Goals as goal
 
-pub returns : goal.returns
+pub returns-clause-text : goal.returns-clause-text
 unfolding steps_line
-returns c = (then c.put_bytes-at.ensures.0 (then c.put_decimal-at.ensures.0 c.put.ensures.0), omega arith)
+returns-clause-text g c = rw (c.push.ensures.items, c.put_decimal.ensures.text, c.put_bytes.ensures.text) (simp append_assoc)

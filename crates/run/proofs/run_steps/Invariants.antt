@@ -8,8 +8,8 @@ use lib.ListN.{length}
 use mathlib.Core.Path.{◌≡◌}
 use Rattle.run.proofs.run_steps.Given as goal
 
-abbrev pub invariant-loop-due : goal.invariant-loop-due
-invariant-loop-due l = (length l.memory ≡ length l.initial.memory) × (length l.pages ≡ length l.initial.pages) × (length l.ports ≡ length l.initial.ports) × ((s : State) → steps mil1750 l.durations l.initial.due (machine (with_clock (with_processor s (joined l.initial.t l.initial.regs)) l.initial.u) l.initial.memory l.initial.pages l.initial.ports) ≡ steps mil1750 l.durations l.due (machine (with_clock (with_processor s (joined l.t l.regs)) l.u) l.memory l.pages l.ports))
+abbrev pub invariant-loop-rest : goal.invariant-loop-rest
+invariant-loop-rest l = (length l.memory ≡ length l.initial.memory) × ((s : State) → steps mil1750 l.durations l.initial.rest.left (machine (with_clock (with_processor s (joined l.initial.rest.core l.initial.regs)) l.initial.rest.clock) l.initial.memory l.initial.pages l.initial.ports) ≡ steps mil1750 l.durations l.rest.left (machine (with_clock (with_processor s (joined l.rest.core l.regs)) l.rest.clock) l.memory l.pages l.ports))
 
-abbrev pub decreases-loop-due : goal.decreases-loop-due
-decreases-loop-due l = l.due
+abbrev pub decreases-loop-rest : goal.decreases-loop-rest
+decreases-loop-rest l = l.rest.left

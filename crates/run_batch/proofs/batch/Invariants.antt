@@ -11,8 +11,8 @@ use lib.ListN.{length}
 use mathlib.Core.Path.{◌≡◌}
 use Rattle.run_batch.proofs.batch.Given as goal
 
-abbrev pub invariant-loop-t : goal.invariant-loop-t
-invariant-loop-t l = (length l.memory ≡ length l.initial.memory) × (length l.pages ≡ length l.initial.pages) × (length l.ports ≡ length l.initial.ports) × (l.deferred < l.most) × (l.most ≤ l.n) × AllButLast l.durations l.most l.clock × (l.tenths ≤ longest_of l.durations * l.deferred) × ((s : State) → steps mil1750 l.durations l.n (machine (with_clock (with_processor s (joined l.initial.t l.initial.regs)) l.clock) l.initial.memory l.initial.pages l.initial.ports) ≡ steps mil1750 l.durations (l.n - l.deferred) (machine (deferred_at (with_clock s l.clock) l.deferred l.tenths l.t l.regs) l.memory l.pages l.ports))
+abbrev pub invariant-loop-timer : goal.invariant-loop-timer
+invariant-loop-timer l = (length l.memory ≡ length l.initial.memory) × (l.deferred < l.most) × (l.most ≤ l.due.left) × AllButLast l.durations l.most l.due.clock × (l.tenths ≤ longest_of l.durations * l.deferred) × ((s : State) → steps mil1750 l.durations l.due.left (machine (with_clock (with_processor s (joined l.initial.t l.initial.regs)) l.due.clock) l.initial.memory l.initial.pages l.initial.ports) ≡ steps mil1750 l.durations (l.due.left - l.deferred) (machine (deferred_at (with_clock s l.due.clock) l.deferred l.tenths l.t l.regs) l.memory l.pages l.ports))
 
-abbrev pub decreases-loop-t : goal.decreases-loop-t
-decreases-loop-t l = l.most - l.deferred
+abbrev pub decreases-loop-timer : goal.decreases-loop-timer
+decreases-loop-timer l = l.most - l.deferred

@@ -3,12 +3,6 @@ use Rattle.clock.specs.Deferred.{ticked_by}
 use mathlib.Core.Path.{refl}
 use Rattle.run_batch.proofs.finish.Goals as goal
 
-pub expire-requires : goal.expire-requires
-expire-requires c = c.requires.1
-
-pub tick_by-requires : goal.tick_by-requires
-tick_by-requires c = c.requires.1
-
 pub returns : goal.returns
 unfolding ticked_by
 returns c = (refl, λ s regs. rw (← c.tick_by.ensures, c.pend.ensures, c.expire.ensures) refl)

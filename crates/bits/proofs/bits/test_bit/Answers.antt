@@ -8,5 +8,5 @@ returns-then-word-weight_of-eq0 c = zero-tested _ _ (rw c.weight_of.ensures at c
 pub returns-then-n-eq0 : goal.returns-then-n-eq0
 returns-then-n-eq0 c = first-tested _ _ (rw c.weight_of.ensures at c.if-word-weight_of-eq0.false) c.if-n-eq0.true
 
-pub returns : goal.returns
-returns c = other-tested _ _ (rw c.weight_of.ensures at c.if-word-weight_of-eq0.false) c.if-n-eq0.false
+pub returns-else-n-eq0 : goal.returns-else-n-eq0
+returns-else-n-eq0 c = other-tested _ _ (rw c.weight_of.ensures at c.if-word-weight_of-eq0.false) c.if-n-eq0.false

@@ -1,15 +1,10 @@
 -- The answers to the goals of `block_one_page::extents::store_extent`. Assumes nothing.
-use Rattle.block_one_page.proofs.HereLaws.{upwards, stored-none, stored-step}
-use lib.ListN.{length-set}
-use mathlib.Core.Path.{refl, sym, ◌∙◌}
-use native.Mathlib.Omega.{arith}
+use Rattle.std.proofs.Common.{◌≡◌, ◌≤◌, ◌+◌, ◌-◌, length, arith}
+use Rattle.block_one_page.proofs.HereLaws.{stored-copied}
 use Rattle.block_one_page.proofs.extents.store_extent.Goals as goal
 
-pub loop-left-init : goal.loop-left-init
-loop-left-init c = (omega arith, omega arith, refl, refl)
-
-pub loop-left-preserved : goal.loop-left-preserved
-loop-left-preserved c = (omega arith, omega arith, length-set c.loop-left.memory _ _ ∙ c.loop-left.invariant.2, c.loop-left.invariant.3 ∙ stored-step (upwards c.args.p) _ _ _ _ c.loop-left-test.true _ refl)
-
 pub returns : goal.returns
-returns c = sym (c.loop-left.invariant.3 ∙ stored-none _ _ _ _ _ c.loop-left-test.false)
+returns c =
+    let all : c.args.p + c.args.count - c.args.p ≡ c.args.count = omega arith in
+    let fits : c.args.count ≤ length c.args.regs.now = omega (arith, c.told-regs) in
+    rw (all, c.copy_from_slice.ensures.after) (stored-copied c.args.p c.args.regs.now c.args.count c.args.memory.now fits (omega arith))

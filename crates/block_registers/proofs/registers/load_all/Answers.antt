@@ -1,16 +1,14 @@
 -- The answers to the goals of `block_registers::registers::load_all`. Assumes nothing.
-use Rattle.std.proofs.Common.{◌+◌, sym, refl, ◌∙◌, add-zero, arith}
-use Rattle.block_registers.proofs.BlockLaws.{loaded-none, loaded-step}
+use Rattle.std.proofs.Common.{◌≡◌, ◌+◌, ◌-◌, ◌≤◌, take, drop, length, length-drop, arith}
+use Rattle.std.proofs.lemmas.List.{length-take-le}
+use Rattle.block_registers.proofs.BlockLaws.{loaded}
 use Rattle.block_registers.proofs.registers.load_all.Goals as goal
 
-pub overflow_add-left : goal.overflow_add-left
-overflow_add-left c = omega (arith, c.field_a-left.ensures.1)
-
-pub loop-left-init : goal.loop-left-init
-loop-left-init c = (omega (arith, c.field_a-left.ensures.1), omega (arith, c.field_a-left.ensures.0, c.requires), rw add-zero refl)
-
-pub loop-left-preserved : goal.loop-left-preserved
-loop-left-preserved c = (omega arith, omega arith, rw c.put.ensures (c.loop-left.invariant.2 ∙ loaded-step _ _ (c.args.p + c.loop-left.i) _ c.args.words.now c.loop-left-test.true (omega arith) (c.args.p + (c.loop-left.i + 1)) (omega arith)))
-
 pub returns : goal.returns
-returns c = rw (← c.field_a-left.ensures.0) (sym (c.loop-left.invariant.2 ∙ loaded-none _ _ (c.args.p + c.loop-left.i) _ c.args.words.now c.loop-left-test.false))
+returns c =
+    let n = c.field_a.result + 1 in
+    let ws = drop c.args.p c.args.words.now in
+    let fits : n ≤ length ws = omega (arith, length-drop c.args.p c.args.words.now) in
+    let all : c.args.p + n - c.args.p ≡ n = omega arith in
+    let copied = rw all at c.copy_from_slice.ensures.after in
+    rw (copied, ← c.field_a.ensures.0) (loaded c.args.regs.now (take n ws) n c.told-regs (length-take-le n ws fits) (omega arith))

@@ -3,8 +3,5 @@ use Rattle.block_registers.proofs.BlockLaws.{moved-written}
 use mathlib.Core.Path.{◌∙◌}
 use Rattle.block_words.proofs.stores.store_moved.Goals as goal
 
-pub write_span-requires : goal.write_span-requires
-write_span-requires c = (c.requires.0, c.requires.1, c.moved_span.ensures.1)
-
 pub returns : goal.returns
 returns c = λ v e. (rw (c.moved_span.ensures.0, c.field_a.ensures.0) at c.write_span.ensures) ∙ moved-written _ _ _ _ _ v _ _ _ _ e

@@ -36,4 +36,4 @@ returns-in-9 c = rw (c.in-9.is, ← c.field_a-a.ensures.0, ← c.field_b-b.ensur
 
 pub returns-in_default : goal.returns-in_default
 unfolding bit_operation
-returns-in_default c = c.nothing.ensures _ ∙ sym (otherwise (c.args.n.form % 256) ((3, _) ∷ (4, _) ∷ (5, _) ∷ (6, _) ∷ (7, _) ∷ (8, _) ∷ (9, _) ∷ []) _ (((((((tt, c.in_default.in_default-own.rest.0.0.0.0.0.0.1), c.in_default.in_default-own.rest.0.0.0.0.0.1), c.in_default.in_default-own.rest.0.0.0.0.1), c.in_default.in_default-own.rest.0.0.0.1), c.in_default.in_default-own.rest.0.0.1), c.in_default.in_default-own.rest.0.1), c.in_default.in_default-own.rest.1))
+returns-in_default c = c.nothing.ensures _ ∙ sym (otherwise (c.args.before.n.form % 256) ((3, _) ∷ (4, _) ∷ (5, _) ∷ (6, _) ∷ (7, _) ∷ (8, _) ∷ (9, _) ∷ []) _ (((((((tt, c.in_default.in_default-own.rest.0.0.0.0.0.0.1), c.in_default.in_default-own.rest.0.0.0.0.0.1), c.in_default.in_default-own.rest.0.0.0.0.1), c.in_default.in_default-own.rest.0.0.0.1), c.in_default.in_default-own.rest.0.0.1), c.in_default.in_default-own.rest.0.1), c.in_default.in_default-own.rest.1))

@@ -4,4 +4,4 @@ use Rattle.execute_float_words.proofs.results.give24.Goals as goal
 
 pub returns : goal.returns
 unfolding float24
-returns c = λ regs sw. rw (← c.first_word-first.ensures, ← c.second_word-second.ensures, ← c.status-cs.ensures, ← c.float_faults-bits.ensures) (c.result2.ensures regs sw)
+returns c = λ regs sw. rw (← c.first_word-first.ensures, ← c.second_word-second.ensures, ← c.status-cs.ensures, ← c.float_faults-bits.ensures) (c.into_registers.ensures regs sw)

@@ -4,4 +4,4 @@ use Rattle.execute_float_words.proofs.results.give40.Goals as goal
 
 pub returns : goal.returns
 unfolding float40
-returns c = λ regs sw. rw (← c.first_word-first.ensures, ← c.second_word-second.ensures, ← c.third_word-third.ensures, ← c.status-cs.ensures, ← c.float_faults-bits.ensures) (c.result3.ensures regs sw)
+returns c = λ regs sw. rw (← c.first_word-first.ensures, ← c.second_word-second.ensures, ← c.third_word-third.ensures, ← c.status-cs.ensures, ← c.float_faults-bits.ensures) (c.into_registers.ensures regs sw)

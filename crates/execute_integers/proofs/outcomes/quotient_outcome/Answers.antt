@@ -4,4 +4,4 @@ use Rattle.execute_integers.proofs.outcomes.quotient_outcome.Goals as goal
 
 pub returns : goal.returns
 unfolding quotient_outcome
-returns c = λ regs sw. rw (← c.fixed_overflow-bits.ensures) (c.result2.ensures regs sw)
+returns c = λ regs sw. rw (← c.fixed_overflow-bits.ensures) (c.into_registers.ensures regs sw)

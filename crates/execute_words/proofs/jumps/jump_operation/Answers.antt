@@ -1,5 +1,5 @@
 -- The answers to the goals of `execute_words::jumps::jump_operation`. Assumes nothing.
-use Rattle.std.proofs.Common.{◌≡◌, ◌+◌}
+use Rattle.std.proofs.Common.{◌≡◌, ◌+◌, arith}
 use Rattle.isa.specs.Words.{jump_operation}
 use Rattle.page.specs.Spans.{wrapped}
 use Rattle.execute_words.proofs.jumps.jump_operation.Goals as goal
@@ -18,4 +18,4 @@ returns-in-36 c = let e : c.less-in-36.result ≡ wrapped (c.get-in-36.result + 
 
 pub returns-in_default : goal.returns-in_default
 unfolding jump_operation wrapped
-returns-in_default c = let e : c.wrapping_add_u16.result ≡ wrapped (c.get-in_default.result + 1) = c.wrapping_add_u16.ensures.value in rw (c.requires c.in_default.in_default-own.rest.0.0.1 c.in_default.in_default-own.rest.0.1 c.in_default.in_default-own.rest.1, ← c.field_a-a.ensures.0, ← c.get-in_default.ensures, ← e) (c.called-in_default.ensures _)
+returns-in_default c = let e : c.wrapping_add_u16.result ≡ wrapped (c.get-in_default.result + 1) = c.wrapping_add_u16.ensures.value in rw (c.requires (λ i. omega arith) (λ i. omega arith) (λ i. omega arith), ← c.field_a-a.ensures.0, ← c.get-in_default.ensures, ← e) (c.called-in_default.ensures _)

@@ -1,12 +1,12 @@
 -- The answers to the goals of `execute_words::loads::load_operation`. Assumes nothing.
-use Rattle.std.proofs.Common.{◌%◌, [], ◌∷◌, sym, ◌∙◌}
+use Rattle.std.proofs.Common.{◌%◌, [], ◌∷◌, sym, ◌∙◌, arith}
 use Rattle.choice.proofs.SelectLaws.{otherwise}
 use Rattle.isa.specs.Words.{load_operation}
 use Rattle.execute_words.proofs.loads.load_operation.Goals as goal
 
 pub returns-in-41 : goal.returns-in-41
 unfolding load_operation
-returns-in-41 c = rw (c.in-41.is, ← c.field_a-a.ensures.0, ← c.mantissa40.ensures.0, ← c.status.ensures) (c.result3.ensures _ _)
+returns-in-41 c = rw (c.in-41.is, ← c.field_a-a.ensures.0, ← c.mantissa40.ensures, ← c.status.ensures) (c.into_registers.ensures _ _)
 
 pub returns-in-42 : goal.returns-in-42
 unfolding load_operation
@@ -18,4 +18,4 @@ returns-in-43 c = rw (c.in-43.is, ← c.field_a-a.ensures.0, ← c.get-in-43.ens
 
 pub returns-in_default : goal.returns-in_default
 unfolding load_operation
-returns-in_default c = c.nothing.ensures _ ∙ sym (otherwise (c.args.n.form % 256) ((38, _) ∷ (39, _) ∷ (41, _) ∷ (42, _) ∷ (43, _) ∷ []) _ (((((tt, c.requires.0), c.requires.1), c.in_default.in_default-own.rest.0.0.1), c.in_default.in_default-own.rest.0.1), c.in_default.in_default-own.rest.1))
+returns-in_default c = c.nothing.ensures _ ∙ sym (otherwise (c.args.before.n.form % 256) ((38, _) ∷ (39, _) ∷ (41, _) ∷ (42, _) ∷ (43, _) ∷ []) _ (((((tt, c.requires.0), c.requires.1), λ e. omega arith), λ e. omega arith), λ e. omega arith))

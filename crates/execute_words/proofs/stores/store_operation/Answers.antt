@@ -1,5 +1,5 @@
 -- The answers to the goals of `execute_words::stores::store_operation`. Assumes nothing.
-use Rattle.std.proofs.Common.{◌%◌, [], ◌∷◌, sym, ◌∙◌}
+use Rattle.std.proofs.Common.{◌%◌, [], ◌∷◌, sym, ◌∙◌, arith}
 use Rattle.choice.proofs.SelectLaws.{otherwise}
 use Rattle.isa.specs.Words.{store_operation}
 use Rattle.execute_words.proofs.stores.store_operation.Goals as goal
@@ -22,4 +22,4 @@ returns-in-53 c = rw (c.in-53.is, ← c.field_a-a.ensures.0, ← c.get-in-53.ens
 
 pub returns-in_default : goal.returns-in_default
 unfolding store_operation
-returns-in_default c = c.nothing.ensures _ ∙ sym (otherwise (c.args.n.form % 256) ((45, _) ∷ (46, _) ∷ (48, _) ∷ (49, _) ∷ (51, _) ∷ (52, _) ∷ (53, _) ∷ []) _ (((((((tt, c.requires.0), c.requires.1), c.requires.2), c.in_default.in_default-own.rest.0.0.0.1), c.in_default.in_default-own.rest.0.0.1), c.in_default.in_default-own.rest.0.1), c.in_default.in_default-own.rest.1))
+returns-in_default c = c.nothing.ensures _ ∙ sym (otherwise (c.args.before.n.form % 256) ((45, _) ∷ (46, _) ∷ (48, _) ∷ (49, _) ∷ (51, _) ∷ (52, _) ∷ (53, _) ∷ []) _ (((((((tt, c.requires.0), c.requires.1), c.requires.2), λ e. omega arith), λ e. omega arith), λ e. omega arith), λ e. omega arith))

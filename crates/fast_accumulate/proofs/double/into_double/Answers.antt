@@ -1,10 +1,11 @@
 -- The answers to the goals of `fast_accumulate::double::into_double`. Assumes nothing.
 use Prim.Native.Nat.{◌+◌}
+use Rattle.std.proofs.Common.{Err}
+use Rattle.std.proofs.lemmas.Result.{err_from_is_err_and}
 use Rattle.fast_accumulate.proofs.EndLaws.{words-first, read_done, read-refused, double-after}
 use Rattle.fast_accumulate.proofs.PathLaws.{path-user, path-reads, path-writes, path-count, doubled, does-double}
 use Rattle.fast_accumulate.specs.Ended.{ended_core}
 use Rattle.fast_accumulate.specs.Paths.{target}
-use Rattle.fixed_add.specs.Fixed.{double}
 use Rattle.isa.specs.Accesses.{at_operand}
 use Rattle.isa.specs.Effects.{fixed_overflow}
 use Rattle.isa.specs.Fields.{with_register}
@@ -17,13 +18,13 @@ use mathlib.Core.Path.{◌≡◌, refl, ap, ◌∙◌}
 use native.Mathlib.Omega.{arith}
 use Rattle.fast_accumulate.proofs.double.into_double.Goals as goal
 
-pub read_operand-g-requires : goal.read_operand-g-requires
-read_operand-g-requires c = (c.requires.0, c.requires.1.group-small, c.requires.3, omega (arith, c.requires.2))
-
-pub returns-then-g : goal.returns-then-g
-unfolding at_operand context_of double register_pair
-returns-then-g c = let o : c.combine32-d.result ≡ double (doubled c.args.n (context_of (joined c.args.core c.args.regs.now)) c.read_operand-g.result.x c.read_operand-g.result.y) = rw (← c.target_of-k.ensures.0, ← c.get.ensures, ← c.get-then-g.ensures, ← c.join-a.ensures, ← c.double_operand.ensures) c.combine32-d.ensures in let w = words-first (joined c.args.core c.args.regs.now) c.args.memory.now c.args.pages.now c.args.n (path-user c.args.n 2 c.requires.2 (omega arith)) _ _ 2 c.requires.1.key-is c.requires.1.group-is (path-reads c.args.n 2 2 0 c.requires.2 (omega arith) refl refl refl refl refl c.args.regs.now) (path-writes c.args.n 2 2 0 c.requires.2 (omega arith) refl refl refl refl refl c.args.regs.now) _ (c.read_operand-g.ensures 2 (path-count c.args.n 2 c.requires.2 (omega arith) 2 refl)) c.if-g.true in read_done (joined c.args.core c.args.regs.now) c.args.memory.now c.args.pages.now c.args.n (path-user c.args.n 2 c.requires.2 (omega arith)) _ _ 2 c.requires.1.key-is c.requires.1.group-is (path-reads c.args.n 2 2 0 c.requires.2 (omega arith) refl refl refl refl refl c.args.regs.now) (path-writes c.args.n 2 2 0 c.requires.2 (omega arith) refl refl refl refl refl c.args.regs.now) _ (c.read_operand-g.ensures 2 (path-count c.args.n 2 c.requires.2 (omega arith) 2 refl)) (double_outcome (context_of (joined c.args.core c.args.regs.now)) c.args.n (target c.args.n) (doubled c.args.n (context_of (joined c.args.core c.args.regs.now)) c.read_operand-g.result.x c.read_operand-g.result.y)) _ _ _ c.if-g.true (does-double c.args.n c.requires.2 _ _ _ _ w.first-is w.second_is) c.done.ensures.0 (double-after c.args.core (ended_core c.args.core c.done.result) c.args.regs.now c.args.n (target c.args.n) _ _ _ (doubled c.args.n (context_of (joined c.args.core c.args.regs.now)) c.read_operand-g.result.x c.read_operand-g.result.y) c.done.ensures.1 c.following.ensures (ap (λ r. r.cs) o) (c.fixed_overflow-bits.ensures ∙ ap (λ r. fixed_overflow r.overflow) o) _ (c.put-then-g.ensures ∙ ap (λ r. with_register r (c.target_of-k.result + 1) c.low.result) c.put.ensures ∙ ap (λ h. with_register (with_register c.args.regs.now c.target_of-k.result (h)) (c.target_of-k.result + 1) c.low.result) c.high.ensures ∙ ap (λ l. with_register (with_register c.args.regs.now c.target_of-k.result (high_word c.combine32-d.result.value)) (c.target_of-k.result + 1) (l)) c.low.ensures ∙ ap (λ k. with_register (with_register c.args.regs.now (k) (high_word c.combine32-d.result.value)) (k + 1) (low_word c.combine32-d.result.value)) c.target_of-k.ensures.0 ∙ ap (λ r. with_register (with_register c.args.regs.now (target c.args.n) (high_word r.value)) (target c.args.n + 1) (low_word r.value)) o))
+pub read_operand-requires : goal.read_operand-requires
+read_operand-requires c = (c.requires.0.group-small, c.requires.2, omega (arith, c.requires.1))
 
 pub returns : goal.returns
-unfolding at_operand context_of double register_pair
-returns c = read-refused (joined c.args.core c.args.regs.now) c.args.memory.now c.args.pages.now c.args.n (path-user c.args.n 2 c.requires.2 (omega arith)) _ _ 2 c.requires.1.key-is c.requires.1.group-is (path-reads c.args.n 2 2 0 c.requires.2 (omega arith) refl refl refl refl refl c.args.regs.now) (path-writes c.args.n 2 2 0 c.requires.2 (omega arith) refl refl refl refl refl c.args.regs.now) _ (c.read_operand-g.ensures 2 (path-count c.args.n 2 c.requires.2 (omega arith) 2 refl)) _ _ _ c.if-g.false c.refused.ensures.0 c.refused.ensures.1 (ap (λ k. joined k c.args.regs.now) c.refused.ensures.2)
+unfolding at_operand context_of register_pair
+returns c = let o : c.combine32-d.result ≡ (doubled c.args.n (context_of (joined c.args.core c.args.regs.now)) c.in_ok-g.g.x c.in_ok-g.g.y) = rw (← c.target_of-k.ensures.0, ← c.get.ensures, ← c.get-2.ensures, ← c.join-a.ensures, ← c.double_operand.ensures) c.combine32-d.ensures in let w = words-first (joined c.args.core c.args.regs.now) c.args.memory.now c.args.pages.now c.args.n (path-user c.args.n 2 c.requires.1 (omega arith)) _ _ 2 c.requires.0.key-is c.requires.0.group-is (path-reads c.args.n 2 2 0 c.requires.1 (omega arith) refl refl refl refl refl c.args.regs.now) (path-writes c.args.n 2 2 0 c.requires.1 (omega arith) refl refl refl refl refl c.args.regs.now) _ (c.read_operand.ensures 2 (path-count c.args.n 2 c.requires.1 (omega arith) 2 refl)) _ c.in_ok-g.was in read_done (joined c.args.core c.args.regs.now) c.args.memory.now c.args.pages.now c.args.n (path-user c.args.n 2 c.requires.1 (omega arith)) _ _ 2 c.requires.0.key-is c.requires.0.group-is (path-reads c.args.n 2 2 0 c.requires.1 (omega arith) refl refl refl refl refl c.args.regs.now) (path-writes c.args.n 2 2 0 c.requires.1 (omega arith) refl refl refl refl refl c.args.regs.now) _ (c.read_operand.ensures 2 (path-count c.args.n 2 c.requires.1 (omega arith) 2 refl)) (double_outcome (context_of (joined c.args.core c.args.regs.now)) c.args.n (target c.args.n) (doubled c.args.n (context_of (joined c.args.core c.args.regs.now)) c.in_ok-g.g.x c.in_ok-g.g.y)) _ _ _ _ c.in_ok-g.was (does-double c.args.n c.requires.1 _ _ _ _ w.first-is w.second_is) refl (double-after c.args.core (ended_core c.args.core c.done.result) c.args.regs.now c.args.n (target c.args.n) _ _ _ (doubled c.args.n (context_of (joined c.args.core c.args.regs.now)) c.in_ok-g.g.x c.in_ok-g.g.y) c.done.ensures c.following.ensures (ap (λ r. r.cs) o) (c.fixed_overflow-bits.ensures ∙ ap (λ r. fixed_overflow r.overflow) o) _ (c.put-2.ensures ∙ ap (λ r. with_register r (c.target_of-k.result + 1) c.low.result) c.put.ensures ∙ ap (λ h. with_register (with_register c.args.regs.now c.target_of-k.result (h)) (c.target_of-k.result + 1) c.low.result) c.high.ensures ∙ ap (λ l. with_register (with_register c.args.regs.now c.target_of-k.result (high_word c.combine32-d.result.value)) (c.target_of-k.result + 1) (l)) c.low.ensures ∙ ap (λ k. with_register (with_register c.args.regs.now (k) (high_word c.combine32-d.result.value)) (k + 1) (low_word c.combine32-d.result.value)) c.target_of-k.ensures.0 ∙ ap (λ r. with_register (with_register c.args.regs.now (target c.args.n) (high_word r.value)) (target c.args.n + 1) (low_word r.value)) o))
+
+pub returns-in_err-g : goal.returns-in_err-g
+unfolding at_operand context_of register_pair
+returns-in_err-g c = let p = err_from_is_err_and c.from_residual.result c.from_residual.ensures.1 in read-refused (joined c.args.core c.args.regs.now) c.args.memory.now c.args.pages.now c.args.n (path-user c.args.n 2 c.requires.1 (omega arith)) _ _ 2 c.requires.0.key-is c.requires.0.group-is (path-reads c.args.n 2 2 0 c.requires.1 (omega arith) refl refl refl refl refl c.args.regs.now) (path-writes c.args.n 2 2 0 c.requires.1 (omega arith) refl refl refl refl refl c.args.regs.now) _ (c.read_operand.ensures 2 (path-count c.args.n 2 c.requires.1 (omega arith) 2 refl)) _ _ _ c.in_err-g.was (p.1 ∙ ap Err p.2) refl

@@ -6,4 +6,4 @@ use Rattle.fast_accumulate.proofs.finish.done.Goals as goal
 
 pub returns : goal.returns
 unfolding affected with_pi with_sw with_ic
-returns c = (refl, λ regs e i j k. rw (i, j, k, ← c.with_cs.ensures) refl)
+returns c = λ regs e i j k. rw (i, j, k, ← c.with_cs.ensures) refl

@@ -6,6 +6,6 @@ pub returns-then-carry : goal.returns-then-carry
 unfolding with_carry
 returns-then-carry c = rw c.if-carry.true
 
-pub returns : goal.returns
+pub returns-else-carry : goal.returns-else-carry
 unfolding with_carry
-returns c = rw c.if-carry.false
+returns-else-carry c = rw c.if-carry.false

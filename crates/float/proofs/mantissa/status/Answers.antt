@@ -9,5 +9,5 @@ returns-then-m-eq0 c = zero-status _ _ c.if-m-eq0.true
 pub returns-then-m-half : goal.returns-then-m-half
 returns-then-m-half c = positive-status _ _ c.if-m-eq0.false (let h = c.half.ensures.weight in omega arith)
 
-pub returns : goal.returns
-returns c = negative-status _ _ c.if-m-eq0.false (let h = c.half.ensures.weight in omega arith)
+pub returns-else-m-half : goal.returns-else-m-half
+returns-else-m-half c = negative-status _ _ c.if-m-eq0.false (let h = c.half.ensures.weight in omega arith)

@@ -1,9 +1,8 @@
 -- The answers to the goals of `float::packing::mantissa40`. Assumes nothing.
 use mathlib.Core.Path.{refl}
-use native.Mathlib.Omega.{arith}
 use Rattle.float.specs.Words.{mantissa40}
 use Rattle.float.proofs.packing.mantissa40.Goals as goal
 
 pub returns : goal.returns
 unfolding mantissa40
-returns c = (rw c.mantissa24.ensures.0 refl, omega arith)
+returns c = rw c.mantissa24.ensures refl

@@ -5,11 +5,11 @@ use Rattle.float_add.proofs.AddLaws.{sum_fits, added}
 use Rattle.float_add.proofs.stages.add.Goals as goal
 
 pub overflow_add-x : goal.overflow_add-x
-overflow_add-x c = record { fits = sum_fits _ _ _ c.requires.1 c.shift-x.ensures.small c.shift-y.ensures.small }
+overflow_add-x g c = record { fits = sum_fits _ _ _ c.args.a.mantissa.width.1 c.shift-x.ensures.small c.shift-y.ensures.small }
 
 pub returns : goal.returns
-returns c =
+returns g c =
     c.fit.ensures
     ∙ ap (given _)
-    (added _ _ _ _ _ _ _ _ _ _ c.requires.0 c.requires.2 c.requires.3 c.common-e.ensures.0
+    (added _ _ _ _ _ _ _ _ _ _ c.args.a.mantissa.width.0 c.args.a.mantissa.held c.args.b.mantissa.held c.common-e.ensures.0
     c.gap.ensures c.gap-2.ensures c.shift-x.ensures c.shift-y.ensures)

@@ -4,14 +4,14 @@ use Rattle.float.proofs.MantissaLaws.{lost-yes, lost-no}
 use Rattle.float_convert.proofs.ConvertLaws.{truncate-low, truncate-exact, truncate-next, truncate-lost}
 use Rattle.float_convert.proofs.convert.truncate.Goals as goal
 
-pub returns-then-m-h : goal.returns-then-m-h
-returns-then-m-h c = truncate-low c.half-h.ensures _ _ _ c.requires.2 c.shift-x.ensures _ c.if-m-h.true c.bits.ensures
+pub returns-then-m-half : goal.returns-then-m-half
+returns-then-m-half g c = truncate-low c.half.ensures _ _ _ c.args.m.held c.shift-x.ensures _ c.if-m-half.true (c.bits.ensures, c.bits.result.held)
 
 pub bits-requires-then-loses : goal.bits-requires-then-loses
-bits-requires-then-loses c = (c.requires.0, c.requires.1, omega (arith, truncate-next c.half-h.ensures _ _ _ c.requires.2 c.shift-x.ensures c.if-m-h.false))
+bits-requires-then-loses g c = (omega arith, (c.args.m.width.0, c.args.m.width.1, omega (arith, truncate-next c.half.ensures _ _ _ c.args.m.held c.shift-x.ensures c.if-m-half.false)))
 
 pub returns-then-loses : goal.returns-then-loses
-returns-then-loses c = truncate-lost c.half-h.ensures _ _ _ c.requires.2 c.shift-x.ensures c.if-m-h.false _ (lost-yes _ c.loses.ensures c.if-loses.true) c.bits-then-loses.ensures
+returns-then-loses g c = truncate-lost c.half.ensures _ _ _ c.args.m.held c.shift-x.ensures c.if-m-half.false _ (lost-yes _ c.loses.ensures c.if-loses.true) (c.bits-then-loses.ensures, c.bits-then-loses.result.held)
 
 pub returns : goal.returns
-returns c = truncate-exact c.half-h.ensures _ _ _ c.requires.2 c.shift-x.ensures c.if-m-h.false _ (lost-no _ c.loses.ensures c.if-loses.false) c.bits-2.ensures
+returns g c = truncate-exact c.half.ensures _ _ _ c.args.m.held c.shift-x.ensures c.if-m-half.false _ (lost-no _ c.loses.ensures c.if-loses.false) (c.bits-2.ensures, c.bits-2.result.held)

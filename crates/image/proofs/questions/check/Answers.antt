@@ -1,22 +1,16 @@
 -- The answers to the goals of `image::questions::check`. Assumes nothing.
+use Rattle.std.proofs.Common.{refl}
+use Rattle.std.proofs.lemmas.Result.{err_from_is_err_and}
+use Rattle.machine.specs.Runs.{asked_all}
 use Rattle.image.specs.Image.{admission}
-use Rattle.machine.specs.Runs.{asked}
-use borrow.Author.Tests.{eq-eqb, ne_eqb}
-use mathlib.Core.Path.{refl}
 use Rattle.image.proofs.questions.check.Goals as goal
 
-pub returns-then-not-whole_pages : goal.returns-then-not-whole_pages
-unfolding admission asked
-returns-then-not-whole_pages c = rw (← c.whole_pages.ensures, c.if-not-whole_pages.true) refl
-
-pub returns-then-pages-ne512 : goal.returns-then-pages-ne512
-unfolding admission asked
-returns-then-pages-ne512 c = rw (← c.whole_pages.ensures, c.if-not-whole_pages.false, ne_eqb _ _ c.if-pages-ne512.true) refl
-
-pub returns-then-ports-ne1024 : goal.returns-then-ports-ne1024
-unfolding admission asked
-returns-then-ports-ne1024 c = rw (← c.whole_pages.ensures, c.if-not-whole_pages.false, eq-eqb _ _ c.if-pages-ne512.false, ne_eqb _ _ c.if-ports-ne1024.true) refl
+pub returns-in_err-check_sizes : goal.returns-in_err-check_sizes
+unfolding admission asked_all
+returns-in_err-check_sizes c =
+    let p = err_from_is_err_and c.from_residual.result c.from_residual.ensures.1 in
+    rw (p.1, p.2, ← c.in_err-check_sizes.ensures {u = tt}) refl
 
 pub returns : goal.returns
-unfolding admission asked
-returns c = rw (← c.whole_pages.ensures, c.if-not-whole_pages.false, eq-eqb _ _ c.if-pages-ne512.false, eq-eqb _ _ c.if-ports-ne1024.false) c.check_image.ensures
+unfolding admission asked_all
+returns c = rw (← c.in_ok-check_sizes.ensures {u = tt}) c.check_image.ensures

@@ -1,17 +1,14 @@
 -- The answers to the goals of `image::questions::check_image`. Assumes nothing.
-use native.Mathlib.Omega.{arith}
+use Rattle.std.proofs.Common.{sym, ◌∙◌, arith}
+use borrow.Author.Tests.{eqb-true, eqb-false}
 use Rattle.image.proofs.QuestionLaws.{no_bytes, no-count, by-table}
-use mathlib.Core.Path.{◌∙◌}
 use Rattle.image.proofs.questions.check_image.Goals as goal
 
-pub returns-then-image-eq0 : goal.returns-then-image-eq0
-returns-then-image-eq0 c = no_bytes _ _ c.if-image-eq0.true
+pub returns-then-is_empty : goal.returns-then-is_empty
+returns-then-is_empty c = no_bytes _ _ (eqb-true _ _ (sym (c.if-is_empty.ensures {u = tt})))
 
 pub returns-then-image-lt2 : goal.returns-then-image-lt2
-returns-then-image-lt2 c = no-count _ _ c.if-image-eq0.false (omega arith)
-
-pub check_table-requires : goal.check_table-requires
-check_table-requires c = omega arith
+returns-then-image-lt2 c = no-count _ _ (eqb-false _ _ (sym (c.if-is_empty.ensures {u = tt}))) (omega arith)
 
 pub returns : goal.returns
-returns c = c.check_table.ensures ∙ by-table _ _ c.if-image-eq0.false (omega arith)
+returns c = c.check_table.ensures ∙ by-table _ _ (eqb-false _ _ (sym (c.if-is_empty.ensures {u = tt}))) (omega arith)

@@ -1,17 +1,13 @@
 -- The answers to the goals of `image::questions::shares`. Assumes nothing.
+use Rattle.std.proofs.Common.{arith}
+use Rattle.std.proofs.lemmas.Grind.{common_steps}
 use Rattle.image.specs.Image.{share}
-use borrow.Author.Tests.{eq-eqb, ne_eqb, lt-ltb, le-ltb}
-use mathlib.Core.Path.{refl}
 use Rattle.image.proofs.questions.shares.Goals as goal
 
-pub returns-then-e-f : goal.returns-then-e-f
+pub returns-then-from-end : goal.returns-then-from-end
 unfolding share
-returns-then-e-f c = rw (ne_eqb _ _ c.if-e-f.true) refl
+returns-then-from-end c = grind (arith, common_steps)
 
-pub returns-then-end-e : goal.returns-then-end-e
+pub returns-else-from-end : goal.returns-else-from-end
 unfolding share
-returns-then-end-e c = rw (eq-eqb _ _ c.if-e-f.false, ← c.end.ensures, le-ltb _ _ c.if-end-e.true) refl
-
-pub returns : goal.returns
-unfolding share
-returns c = rw (eq-eqb _ _ c.if-e-f.false, ← c.end.ensures, lt-ltb _ _ c.if-end-e.false, ← c.end-2.ensures) refl
+returns-else-from-end c = grind (arith, common_steps)

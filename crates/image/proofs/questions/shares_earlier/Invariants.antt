@@ -1,11 +1,7 @@
--- What the loops keep, and the measures, of `image::questions::shares_earlier`. Assumes nothing.
-use Prim.Native.Nat.{◌≤◌}
+-- What the loop keeps, of `image::questions::shares_earlier`. Assumes nothing.
+use Rattle.std.proofs.Common.{◌≡◌, false}
 use Rattle.image.specs.Image.{shares_earlier}
-use mathlib.Core.Path.{◌≡◌}
 use Rattle.image.proofs.questions.shares_earlier.Given as goal
 
-abbrev pub invariant-loop-left : goal.invariant-loop-left
-invariant-loop-left l = (l.left ≤ l.k) × (shares_earlier l.image l.e l.k ≡ shares_earlier l.image l.e l.left)
-
-abbrev pub decreases-loop-left : goal.decreases-loop-left
-decreases-loop-left l = l.left
+abbrev pub invariant-loop-i : goal.invariant-loop-i
+invariant-loop-i l = shares_earlier l.image l.e l.i ≡ false

@@ -1,8 +1,8 @@
 -- The answers to the goals of `image::table::long_at`. Assumes nothing.
-use Rattle.image.specs.Image.{long_at}
-use mathlib.Core.Path.{refl}
+use Rattle.std.proofs.Common.{◌≡◌, ◌+◌, arith}
+use Rattle.image.specs.Image.{word_at, long_at}
 use Rattle.image.proofs.table.long_at.Goals as goal
 
 pub returns : goal.returns
-unfolding long_at
-returns c = rw (c.word_at.ensures, c.word_at-2.ensures) refl
+unfolding word_at long_at
+returns c = let e : c.args.i + 2 + 1 ≡ c.args.i + 3 = omega arith in rw e (omega arith)

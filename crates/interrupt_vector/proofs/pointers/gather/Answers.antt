@@ -2,10 +2,10 @@
 use Rattle.machine.specs.Entries.{read_after}
 use Rattle.interrupt_vector.proofs.pointers.gather.Goals as goal
 
-pub returns-in-Word : goal.returns-in-Word
+pub returns-in-Ok : goal.returns-in-Ok
 unfolding read_after
-returns-in-Word c = cc
+returns-in-Ok c = cc
 
-pub returns-in-Missed : goal.returns-in-Missed
+pub returns-in-Err : goal.returns-in-Err
 unfolding read_after
-returns-in-Missed c = cc
+returns-in-Err c = cc

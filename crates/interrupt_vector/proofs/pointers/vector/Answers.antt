@@ -2,10 +2,10 @@
 use Rattle.machine.specs.Entries.{vector_of}
 use Rattle.interrupt_vector.proofs.pointers.vector.Goals as goal
 
-pub returns-in-All : goal.returns-in-All
+pub returns-in-Some : goal.returns-in-Some
 unfolding vector_of
-returns-in-All c = c.vector_found-found.ensures _ c.in-All.is
+returns-in-Some c = c.vector_found.ensures _ c.in-Some.is
 
-pub returns-in-NotAll : goal.returns-in-NotAll
+pub returns-in-None : goal.returns-in-None
 unfolding vector_of
-returns-in-NotAll c = c.vector_each.ensures
+returns-in-None c = c.vector_each.ensures

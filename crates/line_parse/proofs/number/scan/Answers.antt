@@ -1,42 +1,22 @@
 -- The answers to the goals of `line_parse::number::scan`. Assumes nothing.
-use Rattle.line_parse.proofs.ScanLaws.{scan-start, scan-on, scan-bad, scan-end}
-use borrow.Author.Tests.{le-leb, lt-leb}
-use mathlib.Core.Path.{refl}
-use native.Mathlib.Omega.{arith}
+use Rattle.std.proofs.Common.{arith, rules, sym, ◌∙◌}
+use Rattle.line_parse.proofs.ScanLaws.{scanned-start, scanned-digit, scanned-other, scanned-end}
 use Rattle.line_parse.proofs.number.scan.Goals as goal
 
-pub loop-i-init : goal.loop-i-init
-loop-i-init c = scan-start _
+pub loop-b-init : goal.loop-b-init
+loop-b-init c = record { rest = scanned-start _; small = omega arith }
 
-pub bounds-text-i : goal.bounds-text-i
-bounds-text-i c = omega arith
+pub returns-then-not-is_ascii_digit : goal.returns-then-not-is_ascii_digit
+returns-then-not-is_ascii_digit c =
+    sym (scanned-other c.loop-b.v c.loop-b.b-index c.args.text.now c.loop-b-test.true (sym c.is_ascii_digit.ensures.value ∙ c.if-not-is_ascii_digit.true)) ∙ c.loop-b.invariant.rest
 
-pub returns-then-b-lt48 : goal.returns-then-b-lt48
-returns-then-b-lt48 c = scan-bad c.args.text.now c.loop-i.i c.loop-i-test.true (rw (lt-leb 48 _ c.if-b-lt48.true) refl) c.loop-i.invariant.all
-
-pub returns-then-b-gt57 : goal.returns-then-b-gt57
-returns-then-b-gt57 c = scan-bad c.args.text.now c.loop-i.i c.loop-i-test.true (rw (le-leb 48 _ c.if-b-lt48.false, lt-leb _ 57 c.if-b-gt57.true) refl) c.loop-i.invariant.all
-
-pub overflow_mul-v : goal.overflow_mul-v
-overflow_mul-v c = omega arith
-
-pub overflow_cast-b : goal.overflow_cast-b
-overflow_cast-b c = omega arith
-
-pub overflow_add-v : goal.overflow_add-v
-overflow_add-v c = omega arith
-
-pub cap-v-requires : goal.cap-v-requires
-cap-v-requires c = omega arith
-
-pub overflow_add-i : goal.overflow_add-i
-overflow_add-i c = omega arith
-
-pub loop-i-smaller : goal.loop-i-smaller
-loop-i-smaller c = omega arith
-
-pub loop-i-preserved : goal.loop-i-preserved
-loop-i-preserved c = scan-on c.args.text.now c.loop-i.v c.loop-i.i _ c.loop-i-test.true c.if-b-lt48.false c.if-b-gt57.false c.cap-v.ensures.0 c.cap-v.ensures.1 c.loop-i.invariant
+pub loop-b-preserved : goal.loop-b-preserved
+loop-b-preserved c = record {
+  rest =
+      rw c.cap-v.ensures.value (scanned-digit c.loop-b.v c.loop-b.b-index c.args.text.now c.loop-b-test.true (sym c.is_ascii_digit.ensures.value ∙ c.if-not-is_ascii_digit.false))
+      ∙ c.loop-b.invariant.rest;
+  small = search rules;
+}
 
 pub returns : goal.returns
-returns c = scan-end c.args.text.now c.loop-i.v c.loop-i.i (omega (arith, c.loop-i.invariant.high)) c.loop-i.invariant
+returns c = sym (scanned-end c.loop-b.v c.loop-b.b-index c.args.text.now c.loop-b.invariant.small c.loop-b-test.false) ∙ c.loop-b.invariant.rest

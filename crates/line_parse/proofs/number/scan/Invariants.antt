@@ -1,11 +1,11 @@
--- What the loops keep, and the measures, of `line_parse::number::scan`. Assumes nothing.
-use Prim.Native.Nat.{◌-◌}
-use Rattle.line_parse.proofs.ScanLaws.{Scanning}
-use lib.ListN.{length}
+-- What the loop keeps, of `line_parse::number::scan`. Assumes nothing.
+use Rattle.std.proofs.Common.{◌≡◌, ◌≤◌, drop}
+use Rattle.line_parse.specs.Scans.{scanned}
+use Rattle.line_parse.proofs.ScanLaws.{scanned-on}
 use Rattle.line_parse.proofs.number.scan.Given as goal
 
-abbrev pub invariant-loop-i : goal.invariant-loop-i
-invariant-loop-i l = Scanning l.text l.v l.i
-
-abbrev pub decreases-loop-i : goal.decreases-loop-i
-decreases-loop-i l = length l.text - l.i
+abbrev pub invariant-loop-b : goal.invariant-loop-b
+invariant-loop-b l = record {
+  rest : scanned-on l.v (drop l.b-index l.text) ≡ scanned l.text;
+  small : l.v ≤ 100000;
+}

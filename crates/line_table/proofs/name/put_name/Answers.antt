@@ -1,9 +1,20 @@
 -- The answers to the goals of `line_table::name::put_name`. Assumes nothing.
-use Rattle.line_table.specs.Entries.{name_in}
-use Rattle.text.proofs.WroteLaws.{then}
-use native.Mathlib.Omega.{arith}
+use Rattle.std.proofs.Common.{arith, refl, rules}
+use Rattle.line_table.proofs.NameLaws.{letter-put, letter-left, letters-end}
+use Rattle.line_table.proofs.name.put_name.Goals.{then-byte-ne32, else-byte-ne32}
 use Rattle.line_table.proofs.name.put_name.Goals as goal
 
-pub returns : goal.returns
-unfolding name_in
-returns c = (then c.put_letter-at.ensures.0 (then c.put_letter-at-2.ensures.0 (then c.put_letter-at-3.ensures.0 c.put_letter.ensures.0)), omega arith)
+pub loop-byte-preserved : goal.loop-byte-preserved
+loop-byte-preserved g c = elim c.if-byte-ne32.branch [
+  | then-byte-ne32 w ↦ record {
+    text = letter-put c.args.entry.name c.loop-byte.byte-index _ _ (search rules) c.loop-byte.invariant.text _ w.if-byte-ne32.true (rw w.out-is w.push.ensures.items);
+    short = rw w.out-is (omega (arith, w.push.ensures.len, c.loop-byte.invariant.short));
+  }
+  | else-byte-ne32 w ↦ record {
+    text = letter-left c.args.entry.name c.loop-byte.byte-index _ _ (search rules) c.loop-byte.invariant.text _ w.if-byte-ne32.false (rw w.out-is refl);
+    short = rw w.out-is (omega (arith, c.loop-byte.invariant.short));
+  }
+]
+
+pub returns-clause-text : goal.returns-clause-text
+returns-clause-text g c = letters-end c.args.entry.name c.loop-byte.byte-index _ _ (search rules) c.loop-byte.invariant.text

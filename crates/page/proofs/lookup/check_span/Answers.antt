@@ -1,25 +1,28 @@
 -- The answers to the goals of `page::lookup::check_span`. Assumes nothing.
-use Rattle.std.proofs.Common.{sym, refl, ◌∙◌, arith}
+use Rattle.std.proofs.Common.{Err, sym, refl, ap, ◌∙◌, arith}
+use Rattle.std.proofs.Math.Nat.{sub-zero}
+use Rattle.std.proofs.lemmas.Result.{err_from_is_err_and}
 use Rattle.page.proofs.SpanLaws.{kept, taken, checked-none, then-as, checked-step}
 use Rattle.page.specs.Spans.{and_then, checked}
 use Rattle.page.proofs.lookup.check_span.Goals as goal
+use Rattle.page.proofs.lookup.check_span.Goals.{then-number-span+in_ok-look_up, else-number-span}
 
-pub loop-left-init : goal.loop-left-init
+pub loop-number-init : goal.loop-number-init
 unfolding checked
-loop-left-init c = (omega arith, refl)
+loop-number-init c = rw sub-zero refl
 
-pub loop-left-preserved-in-At : goal.loop-left-preserved-in-At
-unfolding checked and_then
-loop-left-preserved-in-At c = (omega arith, c.loop-left.invariant.1 ∙ checked-step _ _ _ _ _ _ _ _ _ _ c.loop-left-test.true c.wrapping_add_u16-a.ensures.value _ (taken c.args.span _ _ _ _ c.if-number-hole.true (then-as _ _ _ c.look_up-place.ensures c.in-At.is _)))
+pub returns-in_err-look_up : goal.returns-in_err-look_up
+unfolding and_then
+returns-in_err-look_up c =
+    let p = err_from_is_err_and c.from_residual.result c.from_residual.ensures.1 in
+    p.1 ∙ ap Err p.2 ∙ sym (c.loop-number.invariant ∙ checked-step _ _ _ _ _ _ _ _ _ c.loop-number-test.true _ (taken c.args.span _ _ _ _ c.if-number-span.true (then-as _ _ _ c.look_up.ensures c.in_err-look_up.was _)))
 
-pub returns-in-Refused : goal.returns-in-Refused
-unfolding checked and_then
-returns-in-Refused c = sym (c.loop-left.invariant.1 ∙ checked-step _ _ _ _ _ _ _ _ _ _ c.loop-left-test.true c.wrapping_add_u16-a.ensures.value _ (taken c.args.span _ _ _ _ c.if-number-hole.true (then-as _ _ _ c.look_up-place.ensures c.in-Refused.is _)))
-
-pub loop-left-preserved : goal.loop-left-preserved
-unfolding checked and_then
-loop-left-preserved c = (omega arith, c.loop-left.invariant.1 ∙ checked-step _ _ _ _ _ _ _ _ _ _ c.loop-left-test.true c.wrapping_add_u16-a.ensures.value _ (kept c.args.span _ _ _ c.if-number-hole.false))
+pub loop-number-preserved : goal.loop-number-preserved
+unfolding and_then
+loop-number-preserved c = c.loop-number.invariant ∙ checked-step _ _ _ _ _ _ _ _ _ c.loop-number-test.true _ (elim c.if-number-span.branch [
+  | then-number-span+in_ok-look_up w ↦ taken c.args.span _ _ _ _ w.if-number-span.true (then-as _ _ _ w.look_up.ensures w.in_ok-look_up.was _)
+  | else-number-span w ↦ kept c.args.span _ _ _ w.if-number-span.false
+])
 
 pub returns : goal.returns
-unfolding checked and_then
-returns c = sym (c.loop-left.invariant.1 ∙ checked-none _ _ _ _ _ _ _ _ _ c.loop-left-test.false)
+returns c = sym (c.loop-number.invariant ∙ checked-none _ _ _ _ _ _ _ _ _ (omega arith))

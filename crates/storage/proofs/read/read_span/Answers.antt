@@ -1,17 +1,16 @@
 -- The answers to the goals of `storage::read::read_span`. Assumes nothing.
-use Rattle.std.proofs.Common.{set, sym, refl, ap, ◌∙◌, arith}
+use Rattle.std.proofs.Common.{set, sym, ap, ◌∙◌, arith}
 use Rattle.page.proofs.SpanLaws.{kept, taken, read_none, read_step}
 use Rattle.page.specs.Spans.{word_of}
 use Rattle.storage.proofs.read.read_span.Goals as goal
+use Rattle.storage.proofs.read.read_span.Goals.{then-number-span, else-number-span}
 
-pub loop-left-init : goal.loop-left-init
-loop-left-init c = (omega arith, refl)
-
-pub loop-left-preserved-then-number-hole : goal.loop-left-preserved-then-number-hole
-loop-left-preserved-then-number-hole c = (omega arith, c.loop-left.invariant.1 ∙ read_step _ _ _ _ _ _ _ _ _ _ _ c.loop-left-test.true c.wrapping_add_u16-a.ensures.value _ (taken c.args.span _ _ _ _ c.if-number-hole.true (ap (set c.loop-left.buf c.loop-left.i) (c.word_of.ensures ∙ ap word_of c.read_word.ensures))))
-
-pub loop-left-preserved : goal.loop-left-preserved
-loop-left-preserved c = (omega arith, c.loop-left.invariant.1 ∙ read_step _ _ _ _ _ _ _ _ _ _ _ c.loop-left-test.true c.wrapping_add_u16-a.ensures.value _ (kept c.args.span _ _ _ c.if-number-hole.false))
+pub loop-number-preserved : goal.loop-number-preserved
+unfolding word_of
+loop-number-preserved c = c.loop-number.invariant ∙ read_step _ _ _ _ _ _ _ _ _ _ _ c.loop-number-test.true (elim c.if-number-span.branch [
+  | then-number-span w ↦ w.buf-is ∙ taken c.args.span _ _ _ _ w.if-number-span.true (ap (set c.loop-number.buf c.loop-number.number) (w.unwrap_or.ensures ∙ ap word_of w.read_word-word.ensures))
+  | else-number-span w ↦ w.buf-is ∙ kept c.args.span _ _ _ w.if-number-span.false
+])
 
 pub returns : goal.returns
-returns c = sym (c.loop-left.invariant.1 ∙ read_none _ _ _ _ _ _ _ _ _ _ c.loop-left-test.false)
+returns c = sym (c.loop-number.invariant ∙ read_none _ _ _ _ _ _ _ _ _ _ (omega arith))

@@ -1,26 +1,24 @@
 -- The answers to the goals of `text::read::digit`. Assumes nothing.
+use Rattle.std.proofs.Common.{arith}
 use Rattle.text.specs.Texts.{digit_of}
-use borrow.Author.Tests.{lt-ltb, le-ltb}
-use mathlib.Core.Path.{refl}
-use native.Mathlib.Omega.{arith}
 use Rattle.text.proofs.read.digit.Goals as goal
 
-pub returns-then-byte-lt48 : goal.returns-then-byte-lt48
+pub returns-in-48-to-57-clause-value : goal.returns-in-48-to-57-clause-value
 unfolding digit_of
-returns-then-byte-lt48 c = (rw (lt-ltb _ _ c.if-byte-lt48.true) refl, omega arith)
+returns-in-48-to-57-clause-value c = grind arith
 
-pub returns-then-byte-lt58 : goal.returns-then-byte-lt58
+pub returns-in-65-to-70-clause-value : goal.returns-in-65-to-70-clause-value
 unfolding digit_of
-returns-then-byte-lt58 c = (rw (le-ltb _ _ c.if-byte-lt48.false, lt-ltb _ _ c.if-byte-lt58.true) refl, omega arith)
+returns-in-65-to-70-clause-value c = grind arith
 
-pub returns-then-byte-lt65 : goal.returns-then-byte-lt65
+pub returns-in_default-clause-value : goal.returns-in_default-clause-value
 unfolding digit_of
-returns-then-byte-lt65 c = (rw (le-ltb _ _ c.if-byte-lt48.false, le-ltb _ _ c.if-byte-lt58.false, lt-ltb _ _ c.if-byte-lt65.true) refl, omega arith)
+returns-in_default-clause-value c = grind arith
 
-pub returns-then-byte-lt71 : goal.returns-then-byte-lt71
+pub returns-in_default-2-clause-value : goal.returns-in_default-2-clause-value
 unfolding digit_of
-returns-then-byte-lt71 c = (rw (le-ltb _ _ c.if-byte-lt48.false, le-ltb _ _ c.if-byte-lt58.false, le-ltb _ _ c.if-byte-lt65.false, lt-ltb _ _ c.if-byte-lt71.true) refl, omega arith)
+returns-in_default-2-clause-value c = grind arith
 
-pub returns : goal.returns
+pub returns-in_default-3-clause-value : goal.returns-in_default-3-clause-value
 unfolding digit_of
-returns c = (rw (le-ltb _ _ c.if-byte-lt48.false, le-ltb _ _ c.if-byte-lt58.false, le-ltb _ _ c.if-byte-lt65.false, le-ltb _ _ c.if-byte-lt71.false) refl, omega arith)
+returns-in_default-3-clause-value c = grind arith

@@ -1,26 +1,24 @@
 -- The answers to the goals of `text::read::word`. Assumes nothing.
-use Rattle.text.specs.Texts.{given, word_of}
-use borrow.Author.Tests.{lt-ltb, le-ltb}
-use mathlib.Core.Path.{refl}
-use native.Mathlib.Omega.{arith}
+use Rattle.std.proofs.Common.{rules}
+use Rattle.text.specs.Texts.{word_by, word_of}
 use Rattle.text.proofs.read.word.Goals as goal
 
-pub returns-then-first-gt15 : goal.returns-then-first-gt15
-unfolding given word_of
-returns-then-first-gt15 c = (rw (← c.digit-first.ensures.0, ← c.digit-second.ensures.0, ← c.digit-third.ensures.0, ← c.digit-fourth.ensures.0, lt-ltb _ _ c.if-first-gt15.true) refl, omega arith)
+pub returns-in_err-digit : goal.returns-in_err-digit
+unfolding word_by word_of
+returns-in_err-digit c = search rules
 
-pub returns-then-second-gt15 : goal.returns-then-second-gt15
-unfolding given word_of
-returns-then-second-gt15 c = (rw (← c.digit-first.ensures.0, ← c.digit-second.ensures.0, ← c.digit-third.ensures.0, ← c.digit-fourth.ensures.0, le-ltb _ _ c.if-first-gt15.false, lt-ltb _ _ c.if-second-gt15.true) refl, omega arith)
+pub returns-in_err-digit-2 : goal.returns-in_err-digit-2
+unfolding word_by word_of
+returns-in_err-digit-2 c = search rules
 
-pub returns-then-third-gt15 : goal.returns-then-third-gt15
-unfolding given word_of
-returns-then-third-gt15 c = (rw (← c.digit-first.ensures.0, ← c.digit-second.ensures.0, ← c.digit-third.ensures.0, ← c.digit-fourth.ensures.0, le-ltb _ _ c.if-first-gt15.false, le-ltb _ _ c.if-second-gt15.false, lt-ltb _ _ c.if-third-gt15.true) refl, omega arith)
+pub returns-in_err-digit-3 : goal.returns-in_err-digit-3
+unfolding word_by word_of
+returns-in_err-digit-3 c = search rules
 
-pub returns-then-fourth-gt15 : goal.returns-then-fourth-gt15
-unfolding given word_of
-returns-then-fourth-gt15 c = (rw (← c.digit-first.ensures.0, ← c.digit-second.ensures.0, ← c.digit-third.ensures.0, ← c.digit-fourth.ensures.0, le-ltb _ _ c.if-first-gt15.false, le-ltb _ _ c.if-second-gt15.false, le-ltb _ _ c.if-third-gt15.false, lt-ltb _ _ c.if-fourth-gt15.true) refl, omega arith)
+pub returns-in_err-digit-4 : goal.returns-in_err-digit-4
+unfolding word_by word_of
+returns-in_err-digit-4 c = search rules
 
 pub returns : goal.returns
-unfolding given word_of
-returns c = (rw (← c.digit-first.ensures.0, ← c.digit-second.ensures.0, ← c.digit-third.ensures.0, ← c.digit-fourth.ensures.0, le-ltb _ _ c.if-first-gt15.false, le-ltb _ _ c.if-second-gt15.false, le-ltb _ _ c.if-third-gt15.false, le-ltb _ _ c.if-fourth-gt15.false) refl, omega arith)
+unfolding word_by word_of
+returns c = search rules

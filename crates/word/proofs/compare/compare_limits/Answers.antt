@@ -3,18 +3,18 @@ use Rattle.std.proofs.Common.{sym, ◌∙◌}
 use Rattle.word.proofs.CompareLaws.{wrong-limits, under-limits, over-limits, within-limits}
 use Rattle.word.proofs.compare.compare_limits.Goals as goal
 
-pub returns-then-below16 : goal.returns-then-below16
-returns-then-below16 c = wrong-limits 16 _ _ _ (sym c.below16.ensures ∙ c.if-below16.true)
+pub returns-then-below : goal.returns-then-below
+returns-then-below c = wrong-limits 16 _ _ _ (sym c.below.ensures ∙ c.if-below.true)
 
-pub returns-then-below16-2 : goal.returns-then-below16-2
-returns-then-below16-2 c = under-limits 16 _ _ _ (sym c.below16.ensures ∙ c.if-below16.false) (sym c.below16-2.ensures ∙ c.if-below16-2.true)
+pub returns-then-below-2 : goal.returns-then-below-2
+returns-then-below-2 c = under-limits 16 _ _ _ (sym c.below.ensures ∙ c.if-below.false) (sym c.below-else-below.ensures ∙ c.if-below-2.true)
 
-pub returns-then-below16-3 : goal.returns-then-below16-3
-returns-then-below16-3 c =
-    over-limits 16 _ _ _ (sym c.below16.ensures ∙ c.if-below16.false)
-    (sym c.below16-2.ensures ∙ c.if-below16-2.false) (sym c.below16-3.ensures ∙ c.if-below16-3.true)
+pub returns-then-below-3 : goal.returns-then-below-3
+returns-then-below-3 c =
+    over-limits 16 _ _ _ (sym c.below.ensures ∙ c.if-below.false)
+    (sym c.below-else-below.ensures ∙ c.if-below-2.false) (sym c.below-else-below-2.ensures ∙ c.if-below-3.true)
 
-pub returns : goal.returns
-returns c =
-    within-limits 16 _ _ _ (sym c.below16.ensures ∙ c.if-below16.false)
-    (sym c.below16-2.ensures ∙ c.if-below16-2.false) (sym c.below16-3.ensures ∙ c.if-below16-3.false)
+pub returns-else-below-3 : goal.returns-else-below-3
+returns-else-below-3 c =
+    within-limits 16 _ _ _ (sym c.below.ensures ∙ c.if-below.false)
+    (sym c.below-else-below.ensures ∙ c.if-below-2.false) (sym c.below-else-below-2.ensures ∙ c.if-below-3.false)

@@ -5,4 +5,4 @@ use Rattle.word.proofs.pair.join.Goals as goal
 
 pub returns : goal.returns
 unfolding pair
-returns c = beside 16 16 _ _ c.ranges.high.fits c.ranges.low.fits
+returns c = rw (c.from.ensures, c.from-2.ensures) (beside 16 16 _ _ c.ranges.high.fits c.ranges.low.fits)

@@ -1,7 +1,0 @@
--- The answers to the goals of `effect::shapes::nothing`. Assumes nothing.
-use Rattle.isa.specs.Effects.{nothing, stored}
-use Rattle.effect.proofs.shapes.nothing.Goals as goal
-
-pub returns : goal.returns
-unfolding nothing stored
-returns c = λ regs. c.stored.ensures regs

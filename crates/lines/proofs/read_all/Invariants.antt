@@ -1,8 +1,0 @@
--- What the loops keep, and the measures, of `lines::read_all`. Assumes nothing.
-use Rattle.lines.proofs.read_all.Given as goal
-
-abbrev pub invariant-loop-left : goal.invariant-loop-left
-invariant-loop-left g l = Unit {0}
-
-abbrev pub decreases-loop-left : goal.decreases-loop-left
-decreases-loop-left g l = l.left
