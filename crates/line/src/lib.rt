@@ -9,7 +9,7 @@ use line_operand::OperandError;
 use line_operand::print::put_operand;
 use line_parse::cursor::{Cursor, step};
 use line_parse::number::cut;
-use line_table::name::put_name;
+use line_table::name::letters;
 use line_table::parts::{shapes, two_words};
 use line_table::{by_name, by_word};
 use text::show;
@@ -49,8 +49,7 @@ pub fn line(first: u16, second: u16) -> Option<ArrayVec<u8, 40>>
 {
     let entry = by_word(first)?;
     let n = first as u64 + 65536 * (second as u64);
-    let mut text = ArrayVec::<u8, 40>::new();
-    put_name(&mut text, entry);
+    let mut text = letters(entry);
     let mut sep = b' ';
     let shapes = shapes(entry);
     for shape in &shapes {

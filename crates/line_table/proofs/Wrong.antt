@@ -37,7 +37,7 @@ rows =
     ∷ one (base (entry_of 0x4A3B)) 0x4A0B 0x4A 0x4A00
     -- by_name: the box of the first three letters; a misprint of the scan has a box
     ∷ some (base (entry_in (box_named (bytes_of "SUBI"))) ∷ base (entry_in (box_named (bytes_of "SDR"))) ∷ []) (0x9D00 ∷ 0 ∷ []) (0x9B00 ∷ 0 ∷ []) (0x9D00 ∷ 0x5100 ∷ [])
-    -- name::put_name: the blanks that fill up a name are put too; its bytes from the last to the first
+    -- name::letters: the blanks that fill up a name are put too; its bytes from the last to the first
     ∷ some (name (entry_of 0x8210)) (bytes_of "LISP") (bytes_of "LISP ") (bytes_of "PSIL")
     -- parts::shapes: the last operand first; the third operand missing
     ∷ some (map (λ (s : Shape). s.low) (operands (entry_of 0x0000))) (12 ∷ 0 ∷ 0 ∷ []) (0 ∷ 0 ∷ 12 ∷ []) (12 ∷ 0 ∷ [])

@@ -3,14 +3,16 @@
 
 mod entries;
 pub mod name;
+mod names;
 pub mod parts;
 
 ghost use Rattle.std.specs.Prelude.{◌≡◌, true, ◌<◌, ◌≤◌, length};
 ghost use Rattle.line_operand.specs.Numerals.{lacks};
 ghost use Rattle.line_table.specs.Boxes.{box_named};
-ghost use Rattle.line_table.specs.Entries.{filled, entry_in, entry_of, word_at};
+ghost use Rattle.line_table.specs.Entries.{filled, entry_in, entry_of, word_at, Listed};
 
 use entries::ENTRIES;
+use names::{BEGINNINGS, NAMES};
 
 // What the table keeps of a box: its mnemonic's four bytes, filled up with blanks; its operands by their numbers, 0 where there is none; and its first word
 // with the fields 0. The operands are numbers, not shapes: the borrow checker covers no static of structs that hold arrays of structs or enums.
@@ -70,6 +72,20 @@ fn filled(text: &[u8]) -> [u8; 4]
     name
 }
 
+// The mnemonics that begin with a letter, with the places of their entries; none for any other byte.
+fn beginning(letter: u8) -> &'static [([u8; 4], u16)]
+    ensures { Listed letter result.now }
+{
+    if letter < b'A' {
+        return &[];
+    }
+    if b'Z' < letter {
+        return &[];
+    }
+    let i = (letter - b'A') as usize;
+    &NAMES[BEGINNINGS[i] as usize..BEGINNINGS[i + 1] as usize]
+}
+
 // The entry of the box with a name. Every caller has cut the name at the first blank.
 pub fn by_name(text: &[u8]) -> Option<Entry>
     requires { lacks 32 text.now ≡ true }
@@ -79,11 +95,9 @@ pub fn by_name(text: &[u8]) -> Option<Entry>
         return None;
     }
     let name = filled(text);
-    for i in 0..289 {
-        if let Some(entry) = entry_at(i) {
-            if entry.name == name {
-                return Some(entry);
-            }
+    for &(other, place) in beginning(name[0]) {
+        if other == name {
+            return entry_at(place as usize);
         }
     }
     None

@@ -1,20 +1,21 @@
-// The mnemonic of an entry, put behind a text.
-ghost use Rattle.std.specs.Prelude.{◌≡◌, ◌++◌, ◌+◌, ◌≤◌};
+// The mnemonic of an entry.
+ghost use Rattle.std.specs.Prelude.{◌≡◌, ◌≤◌};
 ghost use Rattle.arrayvec.specs.ArrayVec.{array_vec_len};
 ghost use Rattle.line_table.specs.Entries.{letters};
 
 use crate::Entry;
 use arrayvec::ArrayVec;
 
-// The name of an entry without the blanks that fill it up: at most four bytes.
-pub fn put_name<const N: usize>(out: &mut ArrayVec<u8, N>, entry: Entry)
-    requires { array_vec_len out.old + 4 ≤ N }
-    ensures text { out.new.items ≡ out.old.items ++ letters entry.name }
-    ensures short { array_vec_len out.new ≤ array_vec_len out.old + 4 }
+// The name of an entry without the blanks that fill it up, as the start of a line, with room for its operands: copied into one, it would wait for its bytes.
+pub fn letters(entry: Entry) -> ArrayVec<u8, 40>
+    ensures text { result.items ≡ letters entry.name }
+    ensures short { array_vec_len result ≤ 4 }
 {
+    let mut text = ArrayVec::<u8, 40>::new();
     for byte in &entry.name {
         if *byte != b' ' {
-            out.push(*byte);
+            text.push(*byte);
         }
     }
+    text
 }

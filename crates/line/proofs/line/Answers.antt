@@ -22,5 +22,5 @@ pub returns : goal.returns
 returns c =
     let e : c.loop-shape.text.items ≡ letters c.in_ok-entry.entry.name ++ tail blank (shapes_in c.in_ok-entry.entry) (c.args.first + 65536 * c.args.second) =
     tail-end c.shapes-shapes.result c.loop-shape.shape-index _ _ _ _ (search rules) c.loop-shape.invariant.text
-    ∙ rw (c.put_name.ensures.text, c.new-text.ensures, c.shapes-shapes.ensures) refl in
+    ∙ rw (c.letters-text.ensures.text, c.shapes-shapes.ensures) refl in
     ap (λ t. Some t) e ∙ sym (some-printed c.args.first c.args.second c.in_ok-entry.entry (sym c.in_ok-entry.ensures))
