@@ -4,17 +4,18 @@ ghost use Rattle.line_request.specs.Session.{session_of, begun, on_end, on_byte,
 
 use crate::answer::put_answer;
 use arrayvec::ArrayVec;
+use text::first_bytes::FirstBytes;
 use text::show;
 
 // Where the reading of the input stands: the present line, of which 65,537 bytes are kept, so that one of more than 65,536 is seen, and how many lines
 // were before it.
-#[derive(Drop)]
+#[derive(Clone, Copy)]
 pub struct Reading {
-    pub line: ArrayVec<u8, 65537>,
+    pub line: FirstBytes<65537>,
     pub lines: u32,
 }
 
-// `take` and `finish` stand in `test_case::input` once more: one generic pair needs a trait of three members for the six lines that both share.
+// `take` and `finish` stand in `test_case::input` once more: one generic pair needs a trait of three members for the few lines that both share.
 impl Reading {
     // The start of the input.
     #[tactic(auto, unfolding(crate::specs::Session::session_of, crate::specs::Session::begun))]
@@ -22,7 +23,7 @@ impl Reading {
         ensures { session_of result ≡ begun }
     {
         Reading {
-            line: ArrayVec::new(),
+            line: FirstBytes::new(),
             lines: 0,
         }
     }
@@ -34,7 +35,7 @@ impl Reading {
         ensures { Turned (on_end (session_of self.old)) out.old self.new out.new result }
     {
         self.lines = self.lines.wrapping_add(1);
-        let mut text = ArrayVec::<u8, 256>::new();
+        let mut text = ArrayVec::<u8, 41>::new();
         put_answer(&mut text, self.line.as_slice(), self.lines);
         self.line.clear();
         show(&text, out)
@@ -48,9 +49,7 @@ impl Reading {
         if byte == b'\n' {
             return self.end_line(out);
         }
-        if !self.line.is_full() {
-            self.line.push(byte);
-        }
+        self.line.keep(byte);
         0
     }
 

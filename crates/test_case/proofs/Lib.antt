@@ -1,5 +1,6 @@
--- The laws of a case and of its text; known readings; wrong answers.
+-- The laws of a case, of its text and of a line as it is kept; known readings; wrong answers.
 pub mod TextLaws
 pub mod CaseLaws
+pub mod SessionLaws
 pub mod Rows
 pub mod Wrong

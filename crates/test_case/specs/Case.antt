@@ -1,5 +1,5 @@
 -- A case (docs/TEST-CASES.md): the machine that its entries make, its run, and the text of what comes of it. Assumes nothing.
-use Rattle.std.specs.Prelude.{ℕ, zero, suc, Bool, true, false, cond, List, [], ◌++◌, length, take, drop, replicate, ◌==◌, slice_index, slice_set}
+use Rattle.std.specs.Prelude.{◌≡◌, ℕ, zero, suc, ◌<◌, Bool, true, false, cond, List, [], ◌++◌, length, take, drop, replicate, get_or, ◌==◌, slice_index, slice_set}
 use Rattle.machine.specs.declared.State.{State}
 use Rattle.machine.specs.Machine.{Machine, machine}
 use Rattle.machine.specs.Runs.{Run, run_of, number_of, answer_of, made, left}
@@ -94,6 +94,10 @@ change_line k n old new = cond (old == new) [] (entry_line k n new)
 unfoldable pub changes_to : ℕ → List ℕ → List ℕ → ℕ → List ℕ
 changes_to k before after zero = []
 changes_to k before after (suc n) = changes_to k before after n ++ change_line k n (slice_index before n) (slice_index after n)
+
+-- the first n words of two lists are the same
+abbrev pub Same : List ℕ → List ℕ → ℕ → Type 0
+Same before after n = (k : ℕ) → k < n → get_or before k 0 ≡ get_or after k 0
 
 -- of all words
 unfoldable pub changes : ℕ → List ℕ → List ℕ → List ℕ

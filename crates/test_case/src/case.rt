@@ -91,13 +91,13 @@ impl Case {
         }
     }
 
-    // The answer of its run, which is lent the first words of each list, and the case with the state and the lists that the run leaves.
+    // Its run, which is lent the first words of each list: the answer. The case has then the state and the lists that the run leaves.
     #[tactic(auto, unfolding(crate::specs::Case::case_of))]
-    pub(crate) fn run(mut self, steps: u32) -> (Result<(), RunError>, Case)
-        ensures answer { result.0 ≡ answer_of (lent (case_of self)) (case_run (case_of self) steps) }
-        ensures left { Became (ran (case_of self) steps) result.1.state result.1.memory result.1.pages result.1.ports }
+    pub(crate) fn run(&mut self, steps: u32) -> Result<(), RunError>
+        ensures answer { result ≡ answer_of (lent (case_of self.old)) (case_run (case_of self.old) steps) }
+        ensures left { Became (ran (case_of self.old) steps) self.new.state self.new.memory self.new.pages self.new.ports }
     {
-        let ran = run_part(
+        self.state = run_part(
             self.state,
             self.lengths,
             steps,
@@ -105,13 +105,7 @@ impl Case {
             &mut self.pages,
             &mut self.ports,
             &self.durations,
-        );
-        match ran {
-            Ok(left) => {
-                self.state = left;
-                (Ok(()), self)
-            }
-            Err(e) => (Err(e), self),
-        }
+        )?;
+        Ok(())
     }
 }

@@ -5,15 +5,15 @@ ghost use Rattle.test_case.specs.Session.{session_of, begun, on_run, on_entry, o
 
 use crate::case::{Case, made};
 use crate::output::{put_all_changes, put_if, put_message, put_state};
-use arrayvec::ArrayVec;
 use test_case_line::kind::Kind;
 use test_case_line::{Entry, Malformed};
+use text::first_bytes::FirstBytes;
 
 // Where the reading stands: the present line, of which twelve bytes are kept, since an entry has eleven, so that a longer one is seen; the lines and the
 // cases before it; whether the present case has an entry, and the case: one without an entry can be run too, so this is no Option of it.
-#[derive(Drop)]
+#[derive(Clone, Copy)]
 pub struct Reading {
-    pub line: ArrayVec<u8, 12>,
+    pub line: FirstBytes<12>,
     pub lines: u32,
     pub cases: u32,
     pub started: bool,
@@ -27,7 +27,7 @@ impl Reading {
         ensures { session_of result ≡ begun lines cases }
     {
         Reading {
-            line: ArrayVec::new(),
+            line: FirstBytes::new(),
             lines,
             cases,
             started: false,
@@ -41,7 +41,7 @@ impl Reading {
     {
         let number = self.cases.wrapping_add(1);
         let before = self.present;
-        let (answer, after) = before.run(steps);
+        let answer = self.present.run(steps);
         let refused = u32::from(run::number(answer));
         let at = put_state(
             out,
@@ -49,7 +49,7 @@ impl Reading {
             refused,
             made(refused, steps),
             before.timed,
-            after.state,
+            self.present.state,
         );
         let end = put_all_changes(
             out,
@@ -57,9 +57,9 @@ impl Reading {
             &before.memory,
             &before.pages,
             &before.ports,
-            &after.memory,
-            &after.pages,
-            &after.ports,
+            &self.present.memory,
+            &self.present.pages,
+            &self.present.ports,
         );
         *self = Reading::begin(self.lines, number);
         end
@@ -106,9 +106,7 @@ impl Reading {
         if byte == b'\n' {
             return self.end_line(out);
         }
-        if !self.line.is_full() {
-            self.line.push(byte);
-        }
+        self.line.keep(byte);
         0
     }
 

@@ -6,3 +6,5 @@ mod case;
 mod enter;
 pub mod input;
 mod output;
+
+pub use case::{Case, Lengths};

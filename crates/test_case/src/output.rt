@@ -1,18 +1,18 @@
 // Text put into a buffer of 262,144 bytes from a place on; each function returns the place after it. Each caller leaves room for it. A case's
 // text is at most 1,024 bytes of state and 12 for each word that has changed. The buffer with its places stays: `Text` promises of `input` that the bytes of the
 // caller's array behind the text stay (docs/TRACE.md), and a vector of that length of its own would be filled with blanks for each of the 9,615 cases.
-ghost use Rattle.std.specs.Prelude.{◌≡◌, ◌+◌, ◌*◌, ◌≤◌, ◌++◌, length};
+ghost use Rattle.std.specs.Prelude.{◌≡◌, ◌+◌, ◌*◌, ◌≤◌, ◌++◌, length, true};
 ghost use Rattle.arrayvec.specs.ArrayVec.{array_vec_len};
 ghost use Rattle.text.specs.Texts.{numbered_line, Wrote};
 ghost use Rattle.test_case_line.specs.Texts.{entry_line};
-ghost use Rattle.test_case.specs.Case.{changes, state_lines};
+ghost use Rattle.test_case.specs.Case.{changes, state_lines, Same};
 ghost use Rattle.test_case.specs.Session.{said_if};
 
 use arrayvec::ArrayVec;
 use machine::State;
 use report::put_report;
 use test_case_line::output::{case_line, entry_line, mfs_line, remainder_line, time_line};
-use text::{copy, put_numbered_line};
+use text::{copy, put_bytes, put_numbered_line};
 
 // A message of at most 200 bytes and a number.
 pub(crate) fn put_message(out: &mut [u8; 262144], at: usize, message: &[u8], number: u32) -> usize
@@ -54,14 +54,14 @@ fn state_lines<const N: usize>(
     requires { array_vec_len out.old + 263 ≤ N }
     ensures { out.new.items ≡ out.old.items ++ state_lines number answer steps timed state }
 {
-    case_line(out, number, answer);
+    put_bytes(out, case_line(number, answer).as_slice());
     put_report(out, steps, state);
-    time_line(out, state);
+    put_bytes(out, time_line(state).as_slice());
     if timed {
-        remainder_line(out, state);
+        put_bytes(out, remainder_line(state).as_slice());
     }
     if state.core.faults.mfs != 0 {
-        mfs_line(out, state);
+        put_bytes(out, mfs_line(state).as_slice());
     }
 }
 
@@ -86,9 +86,21 @@ fn put_entry(out: &mut [u8; 262144], at: usize, kind: u8, number: u16, word: u16
     requires { at + 12 ≤ 262144 }
     ensures { (Wrote out.old at (entry_line kind number word) out.new result) × (result ≡ at + 12) }
 {
-    let mut line = ArrayVec::<u8, 12>::new();
-    entry_line(&mut line, kind, number, word);
-    copy(out, at, line.as_slice())
+    copy(out, at, entry_line(kind, number, word).as_slice())
+}
+
+// Whether no word has changed; false may come of any words. They are counted to the end, since several are then compared at once, as a loop with an exit is not.
+fn is_same(before: &[u16], after: &[u16]) -> bool
+    requires { (length before.now ≡ length after.now) × (length after.now ≤ 16384) }
+    ensures { result ≡ true → Same before.now after.now (length after.now) }
+{
+    let mut changed: u32 = 0;
+    for n in 0..after.len() {
+        if before[n] != after[n] {
+            changed += 1;
+        }
+    }
+    changed == 0
 }
 
 // The entries of the words that have changed.
@@ -96,6 +108,9 @@ fn put_changes(out: &mut [u8; 262144], at: usize, kind: u8, before: &[u16], afte
     requires { (length before.now ≡ length after.now) × (length after.now ≤ 16384) × (at + 12 * length after.now ≤ 262144) }
     ensures { (Wrote out.old at (changes kind before.now after.now) out.new result) × (result ≤ at + 12 * length after.now) }
 {
+    if is_same(before, after) {
+        return at;
+    }
     let mut to = at;
     for n in 0..after.len() {
         if before[n] != after[n] {

@@ -1,2 +1,3 @@
--- The definitions of text in a buffer, and of numbers as text.
+-- The definitions of text in a buffer, of numbers as text, and of the first bytes of a line.
 pub mod Texts
+pub mod FirstBytes

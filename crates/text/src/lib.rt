@@ -1,4 +1,4 @@
-// Text in a vector of bytes that lies in place, and numbers as text: put behind what is there, and read (`read`).
+// Text in a vector of bytes that lies in place, and numbers as text: put behind what is there, and read (`read`); the first bytes of a line (`first_bytes`).
 // Each caller leaves room for what is put.
 #![tactic(auto)]
 
@@ -6,6 +6,7 @@ ghost use Rattle.std.specs.Prelude.{◌≡◌, ◌++◌, ◌∷◌, ◌+◌, ◌
 ghost use Rattle.arrayvec.specs.ArrayVec.{array_vec_len};
 ghost use Rattle.text.specs.Texts.{digit, hex, decimal, numbered_line, Wrote, Text};
 
+pub mod first_bytes;
 pub mod read;
 
 use arrayvec::ArrayVec;

@@ -6,4 +6,4 @@ use Rattle.test_case_line.proofs.output.mfs_line.Goals as goal
 
 pub returns-clause-text : goal.returns-clause-text
 unfolding mfs_line bytes_of
-returns-clause-text g c = rw (c.push.ensures.items, c.put_hex.ensures.text, c.put_bytes.ensures.text) (simp append_assoc)
+returns-clause-text c = rw (c.push.ensures.items, c.put_hex.ensures.text, c.put_bytes.ensures.text, c.new-text.ensures) (simp append_assoc)

@@ -4,6 +4,6 @@ use Rattle.text.specs.Texts.{bytes_of}
 use Rattle.test_case_line.specs.Texts.{remainder_line}
 use Rattle.test_case_line.proofs.output.remainder_line.Goals as goal
 
-pub returns-clause-text : goal.returns-clause-text
+pub returns : goal.returns
 unfolding remainder_line bytes_of
-returns-clause-text g c = rw (c.push-2.ensures.items, c.put_decimal-2.ensures.text, c.push.ensures.items, c.put_decimal.ensures.text, c.put_bytes.ensures.text, c.from.ensures, c.from-2.ensures) (simp append_assoc)
+returns c = rw (c.push-2.ensures.items, c.put_decimal-2.ensures.text, c.push.ensures.items, c.put_decimal.ensures.text, c.put_bytes.ensures.text, c.from.ensures, c.from-2.ensures, c.new-text.ensures) (simp append_assoc)
