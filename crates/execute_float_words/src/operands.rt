@@ -77,7 +77,7 @@ pub fn both40(regs: &[u16; 16], n: Instruction, x: u16, y: u16, z: u16) -> Both<
     }
 }
 
-// Sum, difference, product or quotient.
+// Sum, difference, product or quotient. Every caller has the operands from `both24` or `both40`, so W is 24 or 40.
 pub fn combine<const W: u32>(operation: Arithmetic, p: Both<W>) -> Float
     requires { W ≤ 40 }
     ensures { result ≡ given W (arithmetic W operation (signed W p.entry.a.mantissa.bits) p.entry.a.exponent (signed W p.entry.b.mantissa.bits) p.entry.b.exponent) }

@@ -42,3 +42,8 @@ narrowed v w x c =
     ap₂ (λ (n : ℕ) (o : Bool). record { value = n; cs = with_carry c (status w n); overflow = o })
     (ap (λ (k : ℕ). wrap w (sub_ℕ x k)) (pow-add 2 v w) ∙ wrap-diff w x (2 ^ v))
     (not-held w (2 ^ (v + w)) x (pow_mono (let l : w - 1 ≤ v + w = omega arith in l)))
+
+-- the same from a test whose ends f and l are given
+pub narrowed-by : (v w x : ℕ) (c : Bool) {f l : ℕ} {o : Bool} → o ≡ (ltb x f || leb l x) → f ≡ 2 ^ (v + w) - 2 ^ (w - 1) → l ≡ 2 ^ (v + w) + 2 ^ (w - 1) →
+    record { value = x % 2 ^ w; cs = with_carry c (status w (x % 2 ^ w)); overflow = o } ≡ outcome_of w c (sub_ℕ x (2 ^ (v + w)))
+narrowed-by v w x c e p q = rw (e, p, q) (sym (narrowed v w x c))

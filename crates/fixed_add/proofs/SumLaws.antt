@@ -74,6 +74,10 @@ module _ (v w : ℕ) (p : 1 ≤ w) where
           ∙ ap (outcome_of w (leb (2 ^ w) (a + (2 ^ w - 1 - b) + 1)))
           (sym (ap (λ z. z -ℤ signed w b) x.number ∙ ap (λ z. sub_ℕ e h -ℤ z) y.number ∙ diff-sub e h f h ∙ diff-eq (e + h) (h + f) (e + K - f) K (omega arith)))
 
+      -- the same from a number z that is given
+      pub difference-by : {z : ℕ} → b < 2 ^ w → z ≡ e + K - f → outcome_of w (leb b a) (sub_ℕ z K) ≡ difference w a b
+      difference-by l q = rw q (difference-is l)
+
 -- at or above zero the absolute value is the number itself, below zero its negation
 pub absolute-low : (w K a : ℕ) → a < 2 ^ (w - 1) → outcome_of w false (sub_ℕ (a + K) K) ≡ absolute w a
 unfolding absolute

@@ -34,6 +34,12 @@ pub division-is : (w : ℕ) (s t : Bool) (m k : ℕ) {q r : Outcome ℕ} → (k 
 unfolding division outcome_of with_carry
 division-is w s t m k p eq er = rw (eq, er, nat_abs-sign t k, ne_eqb k 0 p, quot-of s t m k p, rem_of s t m k p)
 
+-- the same where the sign u of the remainder is given
+pub division-by : (w : ℕ) (s t : Bool) (m k : ℕ) {u : Bool} {q r : Outcome ℕ} → (k ≡ 0 → ⊥) →
+    q ≡ outcome_of w false (with_sign (differ s t) (m / k)) → r ≡ outcome_of w false (with_sign u (m % k)) → u ≡ s →
+    record { quotient = q.value; remainder = r.value; cs = q.cs; overflow = q.overflow } ≡ division w (with_sign s m) (with_sign t k)
+division-by w s t m k p eq er e = division-is w s t m k p eq (rw e at er)
+
 -- the quotient of two numbers, from their parts
 pub quotient-lt : (w B : ℕ) → T (ltb (2 ^ (w - 1)) B) → {a m : ℕ} {s : Bool} (k : ℕ) → Parts w a s m → m / k < B
 quotient-lt w B l {m = m} k x = lt_of_le_of_lt (le_trans (div-le_self m k) x.small) (lit< l)

@@ -1,4 +1,5 @@
 // Floats to integers (5.85, 5.87) and integers to floats (5.86, 5.88).
+// Every caller has W = 24 with 16 bits of an integer or of a register, or W = 40 with 32 bits of two.
 ghost use Rattle.std.specs.Prelude.{◌≡◌, ◌-◌, ◌≤◌, ◌<◌, ◌^◌, pos};
 ghost use Rattle.std.specs.Int.Signed.{quot_z};
 ghost use Rattle.twos_complement.specs.Whole.{signed, wrap};

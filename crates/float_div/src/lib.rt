@@ -50,7 +50,7 @@ fn divide40(a: Operand<40>, b: Operand<40>) -> Float
     finish(neg, q, ea + y.shift + 127, eb + x.shift)
 }
 
-// The quotient with a mantissa of W bits (5.79, 5.80): the upper part of that with 40.
+// The quotient with a mantissa of W bits (5.79, 5.80): the upper part of that with 40. Every caller has W = 24 or 40.
 pub fn divide<const W: u32>(a: Operand<W>, b: Operand<W>) -> Float
     requires { W ≤ 40 }
     ensures { result ≡ given W (quotient_of W (signed W a.entry.mantissa.bits) a.entry.exponent (signed W b.entry.mantissa.bits) b.entry.exponent) }

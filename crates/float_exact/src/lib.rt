@@ -1,4 +1,5 @@
 // What floating point multiply and divide share, on the 40 bits of a mantissa in a u64: sign and magnitude, and the normalised, truncated result.
+// Every caller has tested for 0 the mantissa that it gives to `lead`, and has a width of 24 or 40 for `wider` and `upper`.
 #![tactic(auto)]
 
 ghost use Rattle.std.specs.Prelude.{◌≡◌, ◌+◌, ◌-◌, ◌*◌, ◌/◌, ◌^◌, ◌≤◌, ◌<◌, nat_abs};

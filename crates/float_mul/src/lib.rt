@@ -41,7 +41,7 @@ fn multiply40(a: Operand<40>, b: Operand<40>) -> Float
     finish(neg, q, n, x.shift + y.shift + 147)
 }
 
-// The product with a mantissa of W bits (5.74, 5.75): the upper part of that with 40.
+// The product with a mantissa of W bits (5.74, 5.75): the upper part of that with 40. Every caller has W = 24 or 40.
 pub fn multiply<const W: u32>(a: Operand<W>, b: Operand<W>) -> Float
     requires { W ≤ 40 }
     ensures { result ≡ given W (product_of W (signed W a.entry.mantissa.bits) a.entry.exponent (signed W b.entry.mantissa.bits) b.entry.exponent) }

@@ -17,6 +17,10 @@ use Rattle.twos_complement.proofs.Shifts.{left, circle}
 pub left-wide : (m w n a : ℕ) → w ≤ m → a * 2 ^ n % 2 ^ m % 2 ^ w ≡ shift_left w n a
 left-wide m w n a g = subst (λ (x : ℕ). a * 2 ^ n % 2 ^ x % 2 ^ w ≡ shift_left w n a) (let e : m - w + w ≡ m = omega arith in e) (left (m - w) w n a)
 
+-- the same from a number v that is given
+pub left-wide-by : {v : ℕ} (m w n a : ℕ) → w ≤ m → v ≡ a * 2 ^ n % 2 ^ m → v % 2 ^ w ≡ shift_left w n a
+left-wide-by m w n a g e = rw e (left-wide m w n a g)
+
 -- to the right
 pub right-wide : (w n a : ℕ) → a < 2 ^ w → a / 2 ^ n % 2 ^ w ≡ shift_right w n a
 unfolding shift_right
@@ -51,3 +55,8 @@ pub high-shifted : (m w n a : ℕ) → 1 ≤ w → w + w ≤ m → n ≤ w → 2
 high-shifted m w n a p g h l u =
     let o = pow_pos (w - 1) in
     ap (ltb (2 ^ (w - 1))) (shl_exact w n m (let t : 2 ^ w - a < 2 ^ w = omega arith in t) (omega arith)) ∙ high-changes w n a p l u
+
+-- the same from a test whose sign bit h and magnitude d are given
+pub high-shifted-by : {h d : ℕ} (m w n a : ℕ) → 1 ≤ w → w + w ≤ m → n ≤ w → 2 ^ (w - 1) ≤ a → a < 2 ^ w → h ≡ 2 ^ (w - 1) → d ≡ 2 ^ w - a →
+    ltb h (d * 2 ^ n % 2 ^ m) ≡ sign_changes w n a
+high-shifted-by m w n a p g r l u eh ed = rw (eh, ed) (high-shifted m w n a p g r l u)

@@ -1,6 +1,8 @@
 -- The answers to the goals of `word::compare::below`. Assumes nothing.
-use Rattle.word.proofs.CompareLaws.{turned}
+use Rattle.std.proofs.Common.{arith}
+use Rattle.std.proofs.lemmas.Grind.{common_steps}
+use Rattle.word.proofs.CompareLaws.{turned-by}
 use Rattle.word.proofs.compare.below.Goals as goal
 
 pub returns : goal.returns
-returns g c = rw (c.excess.ensures.value, c.excess-2.ensures.value) (turned g.W.Word.WIDTH _ _ g.met.W.Word.has_sign c.excess.ensures.fits c.excess-2.ensures.fits)
+returns g c = turned-by g.W.Word.WIDTH _ _ g.met.W.Word.has_sign c.excess.ensures.fits c.excess-2.ensures.fits (grind (arith, common_steps)) (grind (arith, common_steps))
