@@ -55,7 +55,10 @@ pub fn into_double(
     requires { Keyed core.sw key group × (path_of (operation_of n.form) ≡ double_path) × (number ≡ number_of n.form) }
     ensures { Ended (joined core regs.old) memory.now pages.now n result regs.new memory.now }
 {
-    let g = read_operand(key, group, memory, pages, n, number)?;
+    let g = match read_operand(key, group, memory, pages, n, number) {
+        Ok(g) => g,
+        Err(b) => return Err(b),
+    };
     let k = target_of(n);
     let a = join(get(regs, k), get(regs, k + 1));
     let d = combine32(n.form % 256, a, double_operand(regs, n, g.x, g.y));

@@ -47,7 +47,10 @@ pub fn into_single(
     requires { Keyed core.sw key group × (path_of (operation_of n.form) ≡ word_path) × (number ≡ number_of n.form) }
     ensures { Ended (joined core regs.old) memory.now pages.now n result regs.new memory.now }
 {
-    let g = read_operand(key, group, memory, pages, n, number)?;
+    let g = match read_operand(key, group, memory, pages, n, number) {
+        Ok(g) => g,
+        Err(b) => return Err(b),
+    };
     let k = accumulator_of(n);
     let s = combine16(n.form % 256, get(regs, k), operand_of(regs, n, g.x));
     put(regs, k, s.value);

@@ -113,5 +113,6 @@ pub fn run(
         regs,
         core: last.core,
         clock: last.clock,
+        ..state
     })
 }
