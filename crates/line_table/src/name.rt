@@ -6,8 +6,7 @@ ghost use Rattle.line_table.specs.Entries.{letters};
 use crate::Entry;
 use arrayvec::ArrayVec;
 
-// The name of an entry without the blanks that fill it up, at the start of a vector with room for a whole line: a vector of its own would be written byte by
-// byte and then copied whole, and the copy would wait for the bytes.
+// The name of an entry without the blanks that fill it up, at the start of a vector with room for a whole line, so that it is not copied into one.
 pub fn letters(entry: Entry) -> ArrayVec<u8, 40>
     ensures text { result.items ≡ letters entry.name }
     ensures short { array_vec_len result ≤ 4 }
