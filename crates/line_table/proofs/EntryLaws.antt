@@ -1,4 +1,4 @@
--- The table's entries: each is that of the box which claims its first word; what an entry tells of its box. Assumes nothing.
+-- The table's entries: each is that of the box which claims its first word, and every box has one; what an entry tells of its box. Assumes nothing.
 use Prim.Native.Nat.{ℕ, zero, suc, ◌+◌, ◌*◌, ◌-◌, ◌/◌, ◌%◌, ◌≤◌, ◌<◌}
 use mathlib.Core.Path.{◌≡◌, refl, sym, ap, subst, ◌∙◌}
 use mathlib.Core.Bool.{Bool, true, false, cond, ◌&&◌, false≢true}
@@ -6,9 +6,9 @@ use mathlib.Core.List.{List, [], ◌∷◌, ◌++◌, map}
 use mathlib.Core.Option.{Option as Box, none, some}
 use Rattle.std.proofs.Common.{Option, None, Some}
 use native.Mathlib.Omega.{arith}
-use lib.Dec.{eqb, leb}
+use lib.Dec.{eqb, leb, ltb}
 use lib.ListN.{length}
-use borrow.Author.Tests.{leb-true, eq-eqb, ne_eqb, eqb-true, lt-ltb, le-ltb}
+use borrow.Author.Tests.{leb-true, eq-eqb, ne_eqb, eqb-true, eqb-false, lt-ltb, le-ltb, ltb-true}
 use Rattle.choice.specs.Search.{found}
 use Rattle.choice.proofs.Rows.{all_of}
 use Rattle.choice.proofs.TestLaws.{split, both, all_but}
@@ -20,11 +20,11 @@ use Rattle.line_operand.specs.declared.Place.TheVariants.{Second}
 use Rattle.line_operand.specs.Numerals.{lacks}
 use Rattle.line_operand.specs.Shapes.{meets, covers, shapes, shape_of}
 use Rattle.line_operand.specs.Operands.{Parsed, omitted, piece, sep_after, tail, hidden, optional, sum_after, rest_after, reads}
-use Rattle.line_table.specs.Boxes.{same_text, named, claims_word, box_of, box_named}
+use Rattle.line_table.specs.Boxes.{same_text, named, claims_word, box_of, box_named, base_of}
 use Rattle.line_table.specs.declared.Entry.{Entry}
 use Rattle.line_table.specs.Entries.{filled, three, entry, entry_in, entry_of, letter, letters, shapes_in, word_at, Has}
 use Rattle.line_table.proofs.NameLaws.{same_true, renamed}
-use Rattle.line_table.proofs.BoxLaws.{named-name, claimed-named}
+use Rattle.line_table.proofs.BoxLaws.{named-name, claimed-named, named-claimed}
 
 pub none-some : {A : Type 0} {e : Entry} → ◌≡◌ {A = Option Entry} None (Some e) → A
 none-some {A} {e} p = let z : ◌≡◌ {A = ℕ} 0 1 = cc in absurd (let y : ⊥ = omega arith in y)
@@ -40,27 +40,42 @@ padded zero os = os
 padded (suc n) [] = 0 ∷ padded n []
 padded (suc n) (o ∷ os) = o ∷ padded n os
 
--- whether the entry tells the box's mnemonic and operands
+-- the place of a first word in the table
+unfoldable place_for : ℕ → ℕ
+place_for w = cond (eqb (w / 256 / 4) 16) (256 + w / 16 % 16) (cond (eqb (w / 256) 0x4A) (272 + w % 16) (cond (eqb w 0xFFFF) 288 (w / 256)))
+
+-- whether the entry tells the box's mnemonic and operands, and is in the table
 unfoldable kept : Line → Bool
 kept l =
-    same_text (letters (filled (bytes_of l.name))) (bytes_of l.name)
-    && (same_text (three l.operands) (padded 3 l.operands) && leb (length (bytes_of l.name)) 4)
+    (same_text (letters (filled (bytes_of l.name))) (bytes_of l.name) && same_text (three l.operands) (padded 3 l.operands))
+    && (leb (length (bytes_of l.name)) 4 && (claims_word (base_of l) l && (ltb (place_for (base_of l)) 289 && eqb (word_at (place_for (base_of l))) (base_of l))))
 
 all-kept : all_of kept pages ≡ true
-unfolding kept padded pages bytes_of same_text filled three letter letters
+unfolding kept place_for padded pages bytes_of same_text filled three letter letters word_at
 all-kept = refl
 
 pub record Kept (l : Line) : Type 0 where
   pub name-is : letters (filled (bytes_of l.name)) ≡ bytes_of l.name
   pub operands-is : three l.operands ≡ padded 3 l.operands
   pub short : length (bytes_of l.name) ≤ 4
+  pub own : claims_word (base_of l) l ≡ true
+  pub place : (k : ℕ) × (k < 289) × (word_at k ≡ base_of l)
 
 kept-true : (l : Line) → kept l ≡ true → Kept l
 unfolding kept
 kept-true l t =
-    let a = both (same_text (letters (filled (bytes_of l.name))) (bytes_of l.name)) _ t in
-    let b = both (same_text (three l.operands) (padded 3 l.operands)) _ a.1 in
-    record { name-is = same_true _ _ a.0; operands-is = same_true _ _ b.0; short = leb-true _ _ b.1 }
+    let a = both (same_text (letters (filled (bytes_of l.name))) (bytes_of l.name) && same_text (three l.operands) (padded 3 l.operands)) _ t in
+    let b = both (same_text (letters (filled (bytes_of l.name))) (bytes_of l.name)) _ a.0 in
+    let f = both (leb (length (bytes_of l.name)) 4) _ a.1 in
+    let g = both (claims_word (base_of l) l) _ f.1 in
+    let h = both (ltb (place_for (base_of l)) 289) _ g.1 in
+    record {
+      name-is = same_true _ _ b.0;
+      operands-is = same_true _ _ b.1;
+      short = leb-true _ _ f.0;
+      own = g.0;
+      place = (place_for (base_of l), ltb-true _ _ h.0, eqb-true _ _ h.1);
+    }
 
 pub claimed-kept : (w : ℕ) (l : Line) → box_of w ≡ some l → Kept l
 unfolding box_of
@@ -169,6 +184,16 @@ module _ (w : ℕ) (h : w < 65536) where
 
 -- ---- the entry of a name
 
+-- none of the first n places has an entry with the name
+abbrev pub Passed : List ℕ → ℕ → Type 0
+Passed name n = (k : ℕ) → k < n → Has name (entry_of (word_at k)) → ⊥
+
+pub passed-none : (name : List ℕ) → Passed name 0
+passed-none name k h = let z : ⊥ = omega arith in absurd z
+
+pub passed_on : (name : List ℕ) (n : ℕ) → Passed name n → (Has name (entry_of (word_at n)) → ⊥) → Passed name (n + 1)
+passed_on name n p q k h = split (eqb k n) (λ e. rw (eqb-true k n e) q) (λ e. p k (omega (arith, eqb-false k n e)))
+
 module _ (t : List ℕ) where
   pub too_long : 4 < length t → None ≡ entry_in (box_named t)
   unfolding entry_in
@@ -177,6 +202,18 @@ module _ (t : List ℕ) where
       of : (o : Box Line) → box_named t ≡ o → None ≡ entry_in (box_named t)
       of none e = rw e refl
       of (some l) e = let z : ⊥ = omega (arith, (named-kept t l e).short, ap length (named-name t l e)) in absurd z
+
+  -- no entry has the name (`by_name` looks in the list of a first letter alone: LetterLaws)
+  pub not_named : Passed (filled t) 289 → None ≡ entry_in (box_named t)
+  unfolding entry_in entry_of entry
+  not_named p = of (box_named t) refl
+    where
+      of : (o : Box Line) → box_named t ≡ o → None ≡ entry_in (box_named t)
+      of none e = rw e refl
+      of (some l) e =
+          let k = named-kept t l e in
+          let b : entry_of (word_at k.place.0) ≡ Some (entry l) = ap entry_of k.place.2 ∙ ap entry_in (named-claimed t l (base_of l) e k.own) in
+          absurd (p k.place.0 k.place.1 (rw b (ap filled (named-name t l e))))
 
   -- an entry with the name is that of the box with the name
   pub named_here : lacks 32 t ≡ true → length t ≤ 4 → (k : ℕ) (name : List ℕ) → Has name (entry_of (word_at k)) → name ≡ filled t
@@ -221,7 +258,10 @@ covers-padded zero os = refl
 covers-padded (suc n) [] = covers-padded n []
 covers-padded (suc n) (o ∷ os) = split (meets (shape_of o).place Second) (λ e. rw e refl) (λ e. rw e (covers-padded n os))
 
--- the shapes that the code takes from an entry
-pub shapes-padded : (l : Line) → Kept l → shapes_in (entry l) ≡ map shape_of (padded 3 l.operands)
+-- the shapes that the code takes from an entry, which has a box's operands with 0 behind them
+pub shapes-three : (l : Line) → three l.operands ≡ padded 3 l.operands → shapes_in (entry l) ≡ map shape_of (padded 3 l.operands)
 unfolding shapes_in entry three
-shapes-padded l k = ap (map shape_of) k.operands-is
+shapes-three l e = ap (map shape_of) e
+
+pub shapes-padded : (l : Line) → Kept l → shapes_in (entry l) ≡ map shape_of (padded 3 l.operands)
+shapes-padded l k = shapes-three l k.operands-is

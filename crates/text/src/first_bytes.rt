@@ -1,5 +1,5 @@
 // The first bytes of a line: as many as there is room for are kept. The kit's `ArrayVec` is not `Copy`, and writes over all that it held where it is cleared.
-ghost use Rattle.std.specs.Prelude.{◌≡◌, [], ◌==◌, length};
+ghost use Rattle.std.specs.Prelude.{◌≡◌, [], ◌==◌, ◌≤◌, length};
 ghost use Rattle.text.specs.FirstBytes.{kept};
 
 use std::marker::Model;
@@ -62,7 +62,8 @@ impl<const N: usize> FirstBytes<N> {
     // The bytes that are kept.
     #[inline]
     pub fn as_slice(&self) -> &[u8]
-        ensures { result.now ≡ self.now.items }
+        ensures value { result.now ≡ self.now.items }
+        ensures fits { length result.now ≤ N }
     {
         &self.bytes[..self.count]
     }
@@ -73,5 +74,23 @@ impl<const N: usize> FirstBytes<N> {
         ensures { self.new.items ≡ [] }
     {
         self.count = 0;
+    }
+}
+
+#[cfg(test)]
+mod tests {
+    use crate::first_bytes::FirstBytes;
+
+    // A third byte where two are kept is left out; the next line begins with its own first byte.
+    #[test]
+    fn first_two_of_three(rt: HostRuntime) {
+        let mut line = FirstBytes::<2>::new();
+        for byte in b"ABC" {
+            line.keep(*byte);
+        }
+        assert_eq!(rt; line.as_slice(), b"AB".as_slice());
+        line.clear();
+        line.keep(b'D');
+        assert_eq!(rt; line.as_slice(), b"D".as_slice());
     }
 }
